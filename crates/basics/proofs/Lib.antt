@@ -1,0 +1,3 @@
+-- What the proofs of every other crate may cite.
+pub mod Tests
+pub mod Lists

@@ -1,0 +1,2 @@
+-- What callers' proofs cite of this crate.
+pub mod Laws

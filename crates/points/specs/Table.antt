@@ -1,0 +1,86 @@
+-- Document 01, "Live table": the six rows, which row holds a point, and where a point's value stands.
+use mathlib.Core.List.{List, [], _∷_}
+use mathlib.Core.Bool.{Bool, true, false, cond, _||_}
+use Prim.Native.Nat.{ℕ, _+_, _-_, _*_, _/_, _%_, _^_}
+use lib.Dec.{eqb}
+use lib.ListN.{getD}
+use Rattle.basics.specs.Numbers.{within}
+use Rattle.points.specs.declared.table.Kind.{Kind}
+use Rattle.points.specs.declared.table.Kind.the-variants.{Boolean, Int16, Text8, Int32, Float, Text16}
+use Rattle.points.specs.declared.table.Row.{Row}
+use Rattle.points.specs.declared.table.Found.{Found}
+use Rattle.points.specs.declared.table.Found.the-variants.{In, Nowhere}
+
+-- the live table's bytes
+abbrev pub tableBytes : ℕ
+tableBytes = 1424
+
+-- kind, first and last point, bytes a point (0 stands for one bit), from which byte of the table
+unfoldable pub rows : List Row
+rows =
+    record { kind = Boolean; first = 1801; last = 1928; size = 0; offset = 0 }
+    ∷ record { kind = Int16; first = 3001; last = 3064; size = 2; offset = 16 }
+    ∷ record { kind = Text8; first = 4001; last = 4032; size = 8; offset = 144 }
+    ∷ record { kind = Int32; first = 5101; last = 5164; size = 4; offset = 400 }
+    ∷ record { kind = Float; first = 7101; last = 7228; size = 4; offset = 656 }
+    ∷ record { kind = Text16; first = 14001; last = 14016; size = 16; offset = 1168 }
+    ∷ []
+
+-- point p is in row r
+unfoldable pub inRow : Row → ℕ → Bool
+inRow r p = within (r .first) (r .last) p
+
+-- the row of a list that holds point p, the first where there are several
+unfoldable pub rowIn : List Row → ℕ → Found
+rowIn [] p = Nowhere
+rowIn (r ∷ rs) p = cond (inRow r p) (In r) (rowIn rs p)
+
+-- the row that holds point p
+unfoldable pub rowOf : ℕ → Found
+rowOf p = rowIn rows p
+
+-- a row's points are single bits
+abbrev pub isBits : Row → Bool
+isBits r = eqb (r .size) 0
+
+-- Boolean number i of the row that starts at byte `offset`, counted from 0: bit i mod 8 of byte i/8, lowest bit first
+abbrev pub flagAt : List ℕ → ℕ → ℕ → ℕ
+flagAt table offset i = (getD table (offset + i / 8) 0 / 2 ^ (i % 8)) % 2
+
+-- where point p of row r starts in the table
+abbrev pub placeOf : Row → ℕ → ℕ
+placeOf r p = r .offset + (p - r .first) * r .size
+
+-- n Booleans packed eight to a byte
+abbrev pub packedSize : ℕ → ℕ
+packedSize n = (n + 7) / 8
+
+-- the bytes of n points of a row
+unfoldable pub pointsSize : Row → ℕ → ℕ
+pointsSize r n = cond (isBits r) (packedSize n) (n * r .size)
+
+-- ---- points of a kind
+-- a kind's bytes a point, 0 standing for one bit: the rows' sizes once more, by kind
+abbrev pub kindSize : Kind → ℕ
+kindSize Boolean = 0
+kindSize Int16 = 2
+kindSize Text8 = 8
+kindSize Int32 = 4
+kindSize Float = 4
+kindSize Text16 = 16
+
+abbrev pub isFloat : Kind → Bool
+isFloat Boolean = false
+isFloat Int16 = false
+isFloat Text8 = false
+isFloat Int32 = false
+isFloat Float = true
+isFloat Text16 = false
+
+abbrev pub inFloats : Found → Bool
+inFloats Nowhere = false
+inFloats (In r) = isFloat (r .kind)
+
+-- a float point or 0
+unfoldable pub floatOrNone : ℕ → Bool
+floatOrNone p = eqb p 0 || inFloats (rowOf p)
