@@ -1,0 +1,94 @@
+-- Document 01, "Marked cases and known blunders": the marked cases of the crates that exist so far, one list.
+-- proofs/Check.antt computes them all at once. Those of rings, Start and scan join with the gateway.
+use mathlib.Core.List.{List, [], _∷_, _++_}
+use mathlib.Core.Bool.{Bool, true, false, _&&_}
+use Prim.Native.Nat.{ℕ, suc, _+_, _-_}
+use Rattle.basics.specs.Lists.{same}
+use lib.IntN.{ℤ, pos, negsuc}
+use lib.ListN.{length, replicate}
+use Rattle.points.specs.declared.table.Found.{Found}
+use Rattle.points.specs.declared.table.Found.the-variants.{In, Nowhere}
+use Rattle.points.specs.Table.{tableBytes, rowOf}
+use Rattle.points.specs.Card.{Card}
+use Rattle.points.specs.Groups.{groupOf, recordSize, judgedCard}
+use Rattle.records.specs.declared.stamp.Stamp.{Stamp}
+use Rattle.records.specs.Stamp.{stampBytes}
+use Rattle.records.specs.Capture.{captured}
+use Rattle.records.specs.Value.{PointValue, flag, int16, int32, float, text, valueInTable}
+
+-- what the definitions give, and what the paper says
+pub record Case : Type 0 where
+  pub given : List ℕ
+  pub stated : List ℕ
+
+abbrev pub _gives_ : List ℕ → List ℕ → Case
+given gives stated = record { given = given; stated = stated }
+
+infix 80 _gives_
+-- ---- how a case is put as numbers
+-- a definition with these groups at its first places, the others unused
+abbrev groups : List ℕ → List ℕ
+groups gs = gs ++ replicate (32 - length gs) 0
+
+-- a definition judged: the card's number and what it carries; a good one carries its record's size
+abbrev shown : Card → List ℕ
+shown c = c .number ∷ c .carried ∷ []
+
+abbrev judged : List ℕ → List ℕ
+judged gs = shown (judgedCard (groups gs))
+
+-- 29 August 2007 11:36:52
+abbrev august : Stamp
+august = record { month = 8; day = 29; year = 7; hour = 11; minute = 36; second = 52 }
+
+-- a live table of zeros, but for some bytes from place i on
+abbrev tableWith : ℕ → List ℕ → List ℕ
+tableWith i bs = replicate i 0 ++ (bs ++ replicate (tableBytes - (i + length bs)) 0)
+
+-- what a group of a table captures
+abbrev capturedGroup : List ℕ → ℕ → ℕ → List ℕ
+capturedGroup table p n = captured table (groupOf p n) p n
+
+-- a whole number: 0 and its size, or 1 and its size where it is below 0
+abbrev shownNumber : ℤ → List ℕ
+shownNumber (pos n) = 0 ∷ n ∷ []
+shownNumber (negsuc n) = 1 ∷ suc n ∷ []
+
+-- a 16-bit value; anything else shows as nothing
+abbrev shownInt16 : PointValue → List ℕ
+shownInt16 (flag b) = []
+shownInt16 (int16 z) = shownNumber z
+shownInt16 (int32 z) = []
+shownInt16 (float x) = []
+shownInt16 (text bs) = []
+
+abbrev int16In : Found → List ℕ → ℕ → List ℕ
+int16In Nowhere table p = []
+int16In (In r) table p = shownInt16 (valueInTable table r p)
+
+-- ---- the cases
+unfoldable pub marked : List Case
+marked =
+    -- 29 August 2007 11:36:52: 08 1D 07 0B 24 34 hex; day first: 1D 08 07 0B 24 34 (002)
+    stampBytes false august gives (0x08 ∷ 0x1D ∷ 0x07 ∷ 0x0B ∷ 0x24 ∷ 0x34 ∷ [])
+    ∷ stampBytes true august gives (0x1D ∷ 0x08 ∷ 0x07 ∷ 0x0B ∷ 0x24 ∷ 0x34 ∷ [])
+    -- Groups (7101,3), (5101,3): 30 bytes (002's example)
+    ∷ judged (7101 ∷ 3 ∷ 5101 ∷ 3 ∷ []) gives (0 ∷ 30 ∷ [])
+    -- (7101,61): 250, taken; with (3001,1) besides, 252: 8
+    ∷ judged (7101 ∷ 61 ∷ []) gives (0 ∷ 250 ∷ [])
+    ∷ judged (7101 ∷ 61 ∷ 3001 ∷ 1 ∷ []) gives (8 ∷ 0 ∷ [])
+    ∷ (recordSize (groups (7101 ∷ 61 ∷ 3001 ∷ 1 ∷ [])) ∷ []) gives (252 ∷ [])
+    -- (7228,1) taken; (7228,2): 7
+    ∷ judged (7228 ∷ 1 ∷ []) gives (0 ∷ 10 ∷ [])
+    ∷ judged (7228 ∷ 2 ∷ []) gives (7 ∷ 1 ∷ [])
+    -- (1801,9), only 1801 and 1809 on: 01 01 hex
+    ∷ capturedGroup (tableWith 0 (0x01 ∷ 0x01 ∷ [])) 1801 9 gives (0x01 ∷ 0x01 ∷ [])
+    -- Value -5 at 3001: FF FB hex
+    ∷ int16In (rowOf 3001) (tableWith 16 (0xFF ∷ 0xFB ∷ [])) 3001 gives shownNumber (negsuc 4)
+    ∷ capturedGroup (tableWith 16 (0xFF ∷ 0xFB ∷ [])) 3001 1 gives (0xFF ∷ 0xFB ∷ [])
+    ∷ []
+
+-- ---- the check
+abbrev pub allHold : List Case → Bool
+allHold [] = true
+allHold (c ∷ cs) = same (c .given) (c .stated) && allHold cs

@@ -1,0 +1,5 @@
+pub mod Stamp
+pub mod Capture
+pub mod Record
+pub mod Value
+pub mod Lent

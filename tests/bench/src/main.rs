@@ -1,0 +1,107 @@
+//! Times the proved code beside plain Rust, both built for release, in one run, and prints ratios. docs/PERFORMANCE.md has the
+//! figures and the command.
+
+mod plain;
+
+use std::hint::black_box;
+use std::io::Write;
+use std::process::{Command, Stdio};
+use std::time::{Duration, Instant};
+
+use model::points::groups_from_first_place;
+use model::record::{captured_record, Stamp};
+use reader::{ffi, random};
+
+/// As many as crates/record_speed writes.
+const RECORDS: u32 = 2_000_000;
+const DECODES: u32 = 2_000;
+/// Each is timed this often, and the best time counts.
+const TRIES: usize = 5;
+
+const STAMP: Stamp = Stamp { month: 8, day: 29, year: 7, hour: 11, minute: 36, second: 52 };
+
+fn best(mut once: impl FnMut()) -> Duration {
+    (0..TRIES)
+        .map(|_| {
+            let start = Instant::now();
+            once();
+            start.elapsed()
+        })
+        .min()
+        .unwrap()
+}
+
+/// The Rattle program, which is handed its case on standard input; the time is that of the whole process.
+fn proved_records(case: &str) -> (Duration, u64) {
+    let mut sum = 0;
+    let time = best(|| {
+        let mut child = Command::new("target/bin/record_speed")
+            .stdin(Stdio::piped())
+            .stdout(Stdio::piped())
+            .spawn()
+            .expect("target/bin/record_speed: run `rt check record_speed` first");
+        child.stdin.take().unwrap().write_all(case.as_bytes()).unwrap();
+        let output = child.wait_with_output().unwrap().stdout;
+        sum = String::from_utf8(output).unwrap().trim().parse().unwrap();
+    });
+    (time, sum)
+}
+
+/// The same loop over the plain writer.
+fn plain_records(groups: &[u16; 32]) -> (Duration, u64) {
+    let mut total = 0;
+    let time = best(|| {
+        let mut table = vec![0u8; 1424];
+        let mut part = vec![0u8; plain::record_size(groups)];
+        let size = part.len();
+        let mut sum = 0u64;
+        for i in 0..RECORDS {
+            table[1] = i as u8;
+            table[700] = i as u8;
+            plain::write_record(black_box(&mut part), false, STAMP, black_box(&table), black_box(groups));
+            sum = (sum + u64::from(part[i as usize % size])) % (1 << 32);
+        }
+        total = sum;
+    });
+    (time, total)
+}
+
+fn records(name: &str, case: &str, groups: [u16; 32]) {
+    let (proved, proved_sum) = proved_records(case);
+    let (plain, plain_sum) = plain_records(&groups);
+    assert_eq!(proved_sum, plain_sum, "the two writers wrote different records");
+    report(name, proved / RECORDS, plain / RECORDS);
+}
+
+fn report(name: &str, proved: Duration, plain: Duration) {
+    let ratio = proved.as_nanos() as f64 / plain.as_nanos() as f64;
+    println!("{name}: proved {proved:?}, plain Rust {plain:?}, ratio {ratio:.2}");
+}
+
+/// Every point of a 250-byte record of floats, each by a call of its own.
+fn decoding() {
+    let groups = groups_from_first_place(&[(7101, 61)]);
+    let table = random::Random::new(1).bytes(1424);
+    let frame = random::reply(1, &captured_record(&groups, &table, STAMP, false));
+    let proved = best(|| {
+        for _ in 0..DECODES {
+            for e in 1..=61 {
+                black_box(ffi::point(black_box(&groups), false, black_box(&frame), 1, e));
+            }
+        }
+    });
+    let plain = best(|| {
+        for _ in 0..DECODES {
+            for e in 1..=61 {
+                let _ = black_box(model::reader::value(black_box(&groups), false, black_box(&frame), 1, e));
+            }
+        }
+    });
+    report("61 points of a 250-byte record decoded", proved / DECODES, plain / DECODES);
+}
+
+fn main() {
+    records("250-byte record of 61 floats written", "f", groups_from_first_place(&[(7101, 61)]));
+    records("record of 127 Booleans from 1802 written", "b", groups_from_first_place(&[(1802, 127)]));
+    decoding();
+}

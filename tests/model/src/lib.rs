@@ -1,0 +1,14 @@
+//! A plain Rust model of the Windrow gateway, written from document 01
+//! (`01-scope.md`) and its source documents 000 and 002 alone.
+//!
+//! It is meant to be read beside document 01 and to be compared with the
+//! gateway library. It favours clarity over speed.
+
+pub mod card;
+pub mod crc;
+pub mod foreign;
+pub mod layout;
+pub mod machine;
+pub mod points;
+pub mod reader;
+pub mod record;

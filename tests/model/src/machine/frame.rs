@@ -1,0 +1,151 @@
+//! Document 01, "Frames": the Modbus RTU answering end.
+
+use super::Machine;
+use crate::card::{self, lowest, Answer};
+use crate::crc;
+use crate::layout::ALARM_FILE;
+use crate::points::STAMP_BYTES;
+
+/// The least length of a lent reply buffer.
+pub const REPLY_BUFFER: usize = 256;
+
+/// Exception codes.
+const BAD_FUNCTION: u8 = 1;
+const BAD_ADDRESS: u8 = 2;
+const BAD_VALUE: u8 = 3;
+
+/// The three registers a file: n, pointer, requested.
+const FIRST_REGISTER: u16 = 3701;
+const LAST_REGISTER: u16 = 3733;
+
+/// A number of a frame, high byte first.
+fn number_at(frame: &[u8], place: usize) -> u16 {
+    u16::from_be_bytes([frame[place], frame[place + 1]])
+}
+
+impl Machine {
+    /// Frame. Answers as every call does, and the reply's length (0 for no
+    /// reply). Reply bytes past that length are unchanged.
+    pub fn frame(&mut self, archive_len: usize, frame: &[u8], reply: &mut [u8]) -> (Answer, usize) {
+        let checked = lowest(&[
+            (card::MEMORY, archive_len != self.archive_len),
+            (card::FOREIGN, self.is_foreign()),
+            (card::REPLY, reply.len() < REPLY_BUFFER),
+        ]);
+        if checked.is_err() {
+            return (checked.into(), 0);
+        }
+        let bytes = self.reply_to(frame);
+        reply[..bytes.len()].copy_from_slice(&bytes);
+        (Answer::DONE, bytes.len())
+    }
+
+    /// The reply's bytes; none where there is no reply.
+    fn reply_to(&mut self, frame: &[u8]) -> Vec<u8> {
+        let whole = (4..=256).contains(&frame.len()) && crc::checks(frame);
+        if !whole {
+            return Vec::new();
+        }
+        let (unit, function) = (frame[0], frame[1]);
+        if unit == 0 {
+            if function == 6 {
+                let _no_reply_either_way = self.serve(frame);
+            }
+            return Vec::new();
+        }
+        if unit != self.unit {
+            return Vec::new();
+        }
+        match self.serve(frame) {
+            Ok(reply) => reply,
+            Err(exception) => crc::with_crc(vec![unit, function | 0x80, exception]),
+        }
+    }
+
+    /// The checks in their order, then the work: a reply or an exception.
+    fn serve(&mut self, frame: &[u8]) -> Result<Vec<u8>, u8> {
+        let (unit, function) = (frame[0], frame[1]);
+        if function != 3 && function != 6 {
+            return Err(BAD_FUNCTION);
+        }
+        if frame.len() != 8 {
+            return Err(BAD_VALUE);
+        }
+        let (address, number) = (number_at(frame, 2), number_at(frame, 4));
+        if function == 6 {
+            self.set_requested(address, number)?;
+            return Ok(frame.to_vec());
+        }
+        let data = self.read(address, number)?;
+        let mut reply = vec![unit, 3, data.len() as u8];
+        reply.extend(data);
+        Ok(crc::with_crc(reply))
+    }
+
+    /// Function 03: the data read.
+    fn read(&self, address: u16, quantity: u16) -> Result<Vec<u8>, u8> {
+        let file_past = |base: u16| usize::from(address - base);
+        match address {
+            701..=711 => self.record_requested(file_past(700)),
+            721..=731 => self.record_numbered(file_past(720), quantity),
+            751..=761 => self.record_requested(file_past(750)).map(stamp_only),
+            771..=781 => self
+                .record_numbered(file_past(770), quantity)
+                .map(stamp_only),
+            FIRST_REGISTER..=LAST_REGISTER => self.registers(address, quantity),
+            _ => Err(BAD_ADDRESS),
+        }
+    }
+
+    fn record_requested(&self, file: usize) -> Result<Vec<u8>, u8> {
+        self.record_numbered(file, self.requested(file))
+    }
+
+    fn record_numbered(&self, file: usize, number: u16) -> Result<Vec<u8>, u8> {
+        if !(1..=self.laid_out_n(file)).contains(&number) {
+            return Err(BAD_VALUE);
+        }
+        Ok(self.record(file, usize::from(number)))
+    }
+
+    /// Registers from an address on, two bytes each.
+    fn registers(&self, address: u16, quantity: u16) -> Result<Vec<u8>, u8> {
+        if quantity == 0 || quantity > 33 {
+            return Err(BAD_VALUE);
+        }
+        if address + quantity - 1 > LAST_REGISTER {
+            return Err(BAD_ADDRESS);
+        }
+        let all = (1..=ALARM_FILE).flat_map(|file| {
+            [
+                self.laid_out_n(file),
+                self.pointer(file),
+                self.requested(file),
+            ]
+        });
+        Ok(all
+            .skip(usize::from(address - FIRST_REGISTER))
+            .take(usize::from(quantity))
+            .flat_map(u16::to_be_bytes)
+            .collect())
+    }
+
+    /// Function 06 on 3703 + 3(f - 1).
+    fn set_requested(&mut self, address: u16, value: u16) -> Result<(), u8> {
+        let file = (1..=ALARM_FILE).find(|&f| 3703 + 3 * (f - 1) == usize::from(address));
+        let Some(file) = file else {
+            return Err(BAD_ADDRESS);
+        };
+        if !(1..=self.laid_out_n(file)).contains(&value) {
+            return Err(BAD_VALUE);
+        }
+        self.requested[file - 1] = value;
+        Ok(())
+    }
+}
+
+/// The stamp at the head of a record.
+fn stamp_only(mut record: Vec<u8>) -> Vec<u8> {
+    record.truncate(STAMP_BYTES);
+    record
+}

@@ -1,0 +1,109 @@
+//! The marked cases (*) and known blunders of document 01 that are about
+//! the machine, and the rules of each call.
+
+use super::*;
+use crate::card::Refusal;
+use crate::crc;
+use crate::foreign::foreign;
+use crate::points::{groups_from_first_place, TABLE_BYTES};
+use crate::record::Stamp;
+
+mod frames;
+mod mixed_run;
+mod scans;
+mod settings;
+
+const UNIT: u8 = 17;
+const ARCHIVE: usize = 20_000;
+/// The trigger of file 1 in these tests.
+const FLAG: u16 = 1803;
+
+/// A stamp whose second tells scans apart.
+fn at_second(second: u8) -> Stamp {
+    Stamp {
+        month: 8,
+        day: 29,
+        year: 7,
+        hour: 11,
+        minute: 36,
+        second,
+    }
+}
+
+/// A live table of zeros with these Booleans on.
+fn table_with(on: &[u16]) -> Vec<u8> {
+    let mut table = vec![0; TABLE_BYTES];
+    for point in on {
+        let i = usize::from(point - 1801);
+        table[i / 8] |= 1 << (i % 8);
+    }
+    table
+}
+
+fn fresh() -> Machine {
+    let (answer, machine) = Machine::fresh(ARCHIVE, false, UNIT);
+    assert!(answer.is_done());
+    machine
+}
+
+fn done(answer: Answer) {
+    assert_eq!(answer, Answer::DONE);
+}
+
+fn refused(answer: Answer, number: u8) {
+    assert_eq!(answer, Answer::from(Err(Refusal::plain(number))));
+}
+
+/// A running machine whose file 1 has n records of one 16-bit point.
+fn running_with_file_1(n: u16) -> Machine {
+    let mut machine = fresh();
+    done(machine.unlock());
+    done(machine.define(1, &groups_from_first_place(&[(3001, 1)]), n));
+    done(machine.trigger(1, FLAG));
+    done(machine.start(ARCHIVE));
+    machine
+}
+
+fn scan(machine: &mut Machine, on: &[u16], second: u8) {
+    done(machine.scan(ARCHIVE, &table_with(on), at_second(second)));
+}
+
+/// So many captures of file 1, stamped with seconds 1, 2, and so on.
+fn capture(machine: &mut Machine, times: u8) {
+    for second in 1..=times {
+        scan(machine, &[], second);
+        scan(machine, &[FLAG], second);
+    }
+}
+
+/// The second in the stamp of record k of file 1.
+fn second_of(machine: &Machine, k: usize) -> u8 {
+    machine.record(1, k)[5]
+}
+
+/// The reply to a request of 8 bytes to our unit; the rest of the reply
+/// buffer must stay as lent.
+fn ask(machine: &mut Machine, unit: u8, function: u8, address: u16, number: u16) -> Vec<u8> {
+    let mut body = vec![unit, function];
+    body.extend(address.to_be_bytes());
+    body.extend(number.to_be_bytes());
+    send(machine, &crc::with_crc(body))
+}
+
+fn send(machine: &mut Machine, frame: &[u8]) -> Vec<u8> {
+    let mut reply = [0xAA; 300];
+    let (answer, length) = machine.frame(ARCHIVE, frame, &mut reply);
+    done(answer);
+    assert!(reply[length..].iter().all(|&byte| byte == 0xAA));
+    reply[..length].to_vec()
+}
+
+fn read_reply(data: &[u8]) -> Vec<u8> {
+    let mut reply = vec![UNIT, 3, data.len() as u8];
+    reply.extend(data);
+    crc::with_crc(reply)
+}
+
+fn exception(function: u8, code: u8) -> Vec<u8> {
+    crc::with_crc(vec![UNIT, function | 0x80, code])
+}

@@ -1,0 +1,93 @@
+//! Long mixed runs: the machine's state stays valid, refused calls change
+//! nothing, and reads agree with archive memory.
+
+use super::*;
+use crate::layout::{file_start, record_bytes};
+
+/// A plain sequence of mixed numbers.
+struct Mixer(u64);
+
+impl Mixer {
+    fn below(&mut self, limit: u64) -> u64 {
+        self.0 = self.0.wrapping_mul(6364136223846793005).wrapping_add(1);
+        (self.0 >> 33) % limit
+    }
+}
+
+fn a_table(mixer: &mut Mixer) -> Vec<u8> {
+    (0..TABLE_BYTES).map(|_| mixer.below(256) as u8).collect()
+}
+
+fn some_groups(mixer: &mut Mixer) -> [u16; 32] {
+    let choices = [
+        (0, 0),
+        (1805, 9),
+        (3001, 2),
+        (7101, 3),
+        (7228, 2),
+        (7101, 61),
+    ];
+    let mut used = [(0, 0); 3];
+    for group in &mut used {
+        *group = choices[mixer.below(6) as usize];
+    }
+    groups_from_first_place(&used)
+}
+
+fn one_call(machine: &mut Machine, mixer: &mut Mixer) -> Answer {
+    let file = mixer.below(12) as usize;
+    let point = 1800 + mixer.below(10) as u16;
+    match mixer.below(40) {
+        0 => machine.unlock(),
+        1 => machine.lock(),
+        2 => machine.stop(),
+        3..=5 => machine.start(ARCHIVE + (mixer.below(9) / 8) as usize),
+        6..=11 => machine.define(file, &some_groups(mixer), mixer.below(40) as u16),
+        12..=15 => machine.trigger(file, point),
+        16..=19 => machine.alarm(3 * file, point, mixer.below(5) as u16, 0),
+        20..=34 => {
+            let stamp = at_second(mixer.below(63) as u8);
+            machine.scan(ARCHIVE, &a_table(mixer), stamp)
+        }
+        _ => {
+            let address = 3703 + 3 * file as u16;
+            let value = mixer.below(40) as u8;
+            let [high, low] = address.to_be_bytes();
+            let frame = crc::with_crc(vec![UNIT, 6, high, low, 0, value]);
+            machine.frame(ARCHIVE, &frame, &mut [0; 256]).0
+        }
+    }
+}
+
+fn reads_agree_with_memory(machine: &Machine) {
+    let memory = machine.archive_memory();
+    for file in 1..=11 {
+        let size = record_bytes(&machine.layout, file);
+        let start = file_start(&machine.layout, file) as usize;
+        for k in 1..=usize::from(machine.laid_out_n(file)) {
+            let from = start + (k - 1) * size;
+            assert_eq!(machine.record(file, k), memory[from..from + size]);
+        }
+    }
+}
+
+#[test]
+fn a_long_mixed_run() {
+    let mut mixer = Mixer(2007);
+    let mut machine = fresh();
+    let (mut refusals, mut captured) = (0, 0);
+    for call in 0..4000 {
+        let before = machine.clone();
+        let answer = one_call(&mut machine, &mut mixer);
+        assert!(!foreign(&machine.raw_state()));
+        if !answer.is_done() {
+            assert_eq!(machine, before);
+            refusals += 1;
+        }
+        if call % 100 == 0 {
+            reads_agree_with_memory(&machine);
+            captured += (1..=10).map(|f| machine.captures(f).len()).sum::<usize>();
+        }
+    }
+    assert!(refusals > 100 && captured > 100);
+}
