@@ -1,0 +1,4 @@
+pub mod Frame
+pub mod Checked
+pub mod Answers
+pub mod Lent

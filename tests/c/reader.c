@@ -1,0 +1,79 @@
+/*
+ * A site driver in C: decodes the Omni bulletin's example (floats 7101-7103 and counters 5101-5103, 29 August 2007 11:36:52) and
+ * asserts the header's layout. The reply is written out by hand from document 01; its CRC was worked out by the bit rule in Python.
+ */
+#include <assert.h>
+#include <stdio.h>
+#include <string.h>
+
+#include "windrow_reader.h"
+
+#define GROUP_NUMBERS 32
+
+static const uint16_t groups[GROUP_NUMBERS] = {7101, 3, 5101, 3};
+
+static const uint8_t reply[] = {
+    0x01, 0x03, 0x1E,                               /* unit 1, function 03, 30 bytes */
+    0x08, 0x1D, 0x07, 0x0B, 0x24, 0x34,             /* 29 August 2007 11:36:52, month first */
+    0x3F, 0x80, 0x00, 0x00, 0xC2, 0x28, 0x00, 0x00, /* 1.0, -42.0 */
+    0x7F, 0xC0, 0x00, 0x01,                         /* a NaN with a payload, carried bit for bit */
+    0x00, 0x00, 0x00, 0x07, 0xFF, 0xFF, 0xFF, 0xFB, /* 7, -5 */
+    0x7F, 0xFF, 0xFF, 0xFF,                         /* 2147483647 */
+    0xD1, 0x5C};                                   /* CRC, low byte first */
+
+static void check_layout(void)
+{
+    assert(sizeof(struct windrow_part) == 16);
+    assert(offsetof(struct windrow_part, number) == 0);
+    assert(offsetof(struct windrow_part, carried) == 4);
+    assert(offsetof(struct windrow_part, place) == 8);
+    assert(offsetof(struct windrow_part, length) == 12);
+    assert(sizeof(struct windrow_stamp) == 6);
+    assert(offsetof(struct windrow_stamp, month) == 0);
+    assert(offsetof(struct windrow_stamp, day) == 1);
+    assert(offsetof(struct windrow_stamp, year) == 2);
+    assert(offsetof(struct windrow_stamp, hour) == 3);
+    assert(offsetof(struct windrow_stamp, minute) == 4);
+    assert(offsetof(struct windrow_stamp, second) == 5);
+    assert(sizeof(struct windrow_stamp_answer) == 16);
+    assert(offsetof(struct windrow_stamp_answer, number) == 0);
+    assert(offsetof(struct windrow_stamp_answer, carried) == 4);
+    assert(offsetof(struct windrow_stamp_answer, stamp) == 8);
+    assert(sizeof(struct windrow_point) == 24);
+    assert(offsetof(struct windrow_point, number) == 0);
+    assert(offsetof(struct windrow_point, carried) == 4);
+    assert(offsetof(struct windrow_point, kind) == 8);
+    assert(offsetof(struct windrow_point, bits) == 12);
+    assert(offsetof(struct windrow_point, place) == 16);
+    assert(offsetof(struct windrow_point, length) == 20);
+}
+
+static void print_point(uint32_t g, uint32_t e)
+{
+    struct windrow_point p = windrow_reader_point(groups, GROUP_NUMBERS, false, reply, sizeof reply, g, e);
+    if (p.number != WINDROW_DONE)
+        printf("place %u point %u: refused %u\n", g, e, p.number);
+    else if (p.kind == WINDROW_FLOAT)
+        printf("place %u point %u: float %08X\n", g, e, p.bits);
+    else
+        printf("place %u point %u: kind %u value %d\n", g, e, p.kind, (int)(int32_t)p.bits);
+}
+
+int main(void)
+{
+    check_layout();
+    struct windrow_stamp_answer when = windrow_reader_stamp(groups, GROUP_NUMBERS, false, reply, sizeof reply);
+    printf("refused %u: %u/%u/%02u %02u:%02u:%02u\n", when.number, when.stamp.day, when.stamp.month, when.stamp.year,
+           when.stamp.hour, when.stamp.minute, when.stamp.second);
+    struct windrow_part record = windrow_reader_record(groups, GROUP_NUMBERS, false, reply, sizeof reply);
+    printf("record: %u bytes from %u\n", record.length, record.place);
+    struct windrow_part counters = windrow_reader_stretch(groups, GROUP_NUMBERS, false, reply, sizeof reply, 2);
+    printf("place 2: %u bytes from %u\n", counters.length, counters.place);
+    for (uint32_t g = 1; g <= 3; g++)
+        for (uint32_t e = 1; e <= 3; e++)
+            print_point(g, e);
+    printf("31 numbers: refused %u carrying %u\n", windrow_reader_record(groups, 31, false, reply, sizeof reply).number,
+           windrow_reader_record(groups, 31, false, reply, sizeof reply).carried);
+    printf("no frame: refused %u\n", windrow_reader_record(groups, GROUP_NUMBERS, false, reply, 0).number);
+    return 0;
+}

@@ -1,0 +1,105 @@
+//! Random definitions, stamps, tables and replies, from a seed that a test prints.
+
+use model::crc::with_crc;
+use model::points::ROWS;
+use model::record::Stamp;
+
+/// xorshift64*: enough for tests, and the same on every machine.
+pub struct Random(u64);
+
+impl Random {
+    pub fn new(seed: u64) -> Random {
+        Random(seed | 1)
+    }
+
+    pub fn next(&mut self) -> u64 {
+        self.0 ^= self.0 >> 12;
+        self.0 ^= self.0 << 25;
+        self.0 ^= self.0 >> 27;
+        self.0.wrapping_mul(0x2545_F491_4F6C_DD1D)
+    }
+
+    /// A number below n.
+    pub fn below(&mut self, n: u64) -> u64 {
+        self.next() % n
+    }
+
+    pub fn chance(&mut self, one_in: u64) -> bool {
+        self.below(one_in) == 0
+    }
+
+    pub fn bytes(&mut self, n: usize) -> Vec<u8> {
+        (0..n).map(|_| self.next() as u8).collect()
+    }
+}
+
+/// Groups that are mostly good and short, with unused places between, and now and then a bad group.
+pub fn groups(random: &mut Random) -> [u16; 32] {
+    let mut numbers = [0u16; 32];
+    let mut left = 244i64;
+    for place in 0..16 {
+        if random.chance(3) {
+            continue;
+        }
+        if random.chance(60) {
+            numbers[2 * place] = random.next() as u16;
+            numbers[2 * place + 1] = random.next() as u16;
+            continue;
+        }
+        let row = &ROWS[random.below(6) as usize];
+        let extent = u64::from(row.last - row.first) + 1;
+        let skipped = random.below(extent);
+        let mut points = 1 + random.below(extent - skipped);
+        while row.bytes_of(points as u16) as i64 > left && points > 1 {
+            points = 1 + points / 3;
+        }
+        if row.bytes_of(points as u16) as i64 > left && !random.chance(40) {
+            continue;
+        }
+        left -= row.bytes_of(points as u16) as i64;
+        numbers[2 * place] = row.first + skipped as u16;
+        numbers[2 * place + 1] = points as u16;
+    }
+    numbers
+}
+
+/// A stamp in range.
+pub fn stamp(random: &mut Random) -> Stamp {
+    Stamp {
+        month: 1 + random.below(12) as u8,
+        day: 1 + random.below(31) as u8,
+        year: random.below(100) as u8,
+        hour: random.below(24) as u8,
+        minute: random.below(60) as u8,
+        second: random.below(60) as u8,
+    }
+}
+
+/// The reply that carries a record: unit, 03, byte count, record, CRC.
+pub fn reply(unit: u8, record: &[u8]) -> Vec<u8> {
+    let mut frame = vec![unit, 3, record.len() as u8];
+    frame.extend_from_slice(record);
+    with_crc(frame)
+}
+
+/// The frame with one of the faults that the card names: length, CRC, unit, function, byte count, stamp, zeros. All but a wrong CRC
+/// or length are given a right CRC again, so that the fault itself is what is refused.
+pub fn damaged(random: &mut Random, frame: &[u8]) -> Vec<u8> {
+    let mut copy = frame.to_vec();
+    let body = copy.len() - 2;
+    match random.below(8) {
+        0 => copy.truncate(random.below(copy.len() as u64 + 1) as usize),
+        1 => copy.extend(random.bytes(1 + frame.len() % 7)),
+        2 => copy[body + (frame.len() & 1)] ^= 1 << random.below(8),
+        3 => copy[0] = [0, 248, 255][random.below(3) as usize],
+        4 => copy[1] = [4, 6, 0x83][random.below(3) as usize],
+        5 => copy[2] = copy[2].wrapping_add(1 + random.below(3) as u8),
+        6 => copy[3 + random.below(6) as usize] = 60 + random.below(196) as u8,
+        _ => copy[3..body].fill(0),
+    }
+    if copy.len() != frame.len() || copy[body..] != frame[body..] {
+        return copy;
+    }
+    copy.truncate(body);
+    with_crc(copy)
+}
