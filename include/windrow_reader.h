@@ -14,19 +14,11 @@
 #include <stddef.h>
 #include <stdint.h>
 
+#include "windrow_card.h" /* of whose numbers the reading end answers 0, 7, 8, 14, 15 and 16 */
+
 #ifdef __cplusplus
 extern "C" {
 #endif
-
-/* The numbers of the service card that the reading end answers. The lowest that applies is answered. */
-enum windrow_card {
-    WINDROW_DONE = 0,
-    WINDROW_GROUP = 7,    /* a bad group; carried is the first one's place, 1-16, or 0 where there are not 32 numbers */
-    WINDROW_LONG = 8,     /* the groups make a record of more than 250 bytes */
-    WINDROW_GARBLED = 14, /* no 03 reply of unit 1-247 with a right CRC and a record of this size, or a stamp out of range */
-    WINDROW_EMPTY = 15,   /* the record is all zeros: nothing has been captured there */
-    WINDROW_BEYOND = 16   /* the place or the point asked for names nothing */
-};
 
 /* What a point is. */
 enum windrow_kind {

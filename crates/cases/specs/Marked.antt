@@ -1,5 +1,5 @@
 -- Document 01, "Marked cases and known blunders": the marked cases of the crates that exist so far, one list.
--- proofs/Check.antt computes them all at once. Those of rings, Start and scan join with the gateway.
+-- proofs/Check.antt computes them all at once. Those of rings and of the scan join with those calls.
 use mathlib.Core.List.{List, [], _∷_, _++_}
 use mathlib.Core.Bool.{Bool, true, false, _&&_}
 use Prim.Native.Nat.{ℕ, suc, _+_, _-_}
@@ -15,6 +15,7 @@ use Rattle.records.specs.declared.stamp.Stamp.{Stamp}
 use Rattle.records.specs.Stamp.{stampBytes}
 use Rattle.records.specs.Capture.{captured}
 use Rattle.records.specs.Value.{PointValue, flag, int16, int32, float, text, valueInTable}
+use Rattle.gateway.specs.Calls.{freshAnswer, unlockAnswer, defineAnswer, startAnswer}
 
 -- what the definitions give, and what the paper says
 pub record Case : Type 0 where
@@ -66,6 +67,14 @@ abbrev int16In : Found → List ℕ → ℕ → List ℕ
 int16In Nowhere table p = []
 int16In (In r) table p = shownInt16 (valueInTable table r p)
 
+-- fresh, unlocked, file 1 defined as one bare stamp, then started: the number that Start answers
+abbrev oneBareStamp : ℕ → List ℕ
+oneBareStamp size =
+    let fresh = freshAnswer false 1 size .state in
+    let unlocked = unlockAnswer fresh size .state in
+    let defined = defineAnswer unlocked size 1 (groups []) 1 .state in
+    startAnswer defined size .number ∷ []
+
 -- ---- the cases
 unfoldable pub marked : List Case
 marked =
@@ -86,6 +95,9 @@ marked =
     -- Value -5 at 3001: FF FB hex
     ∷ int16In (rowOf 3001) (tableWith 16 (0xFF ∷ 0xFB ∷ [])) 3001 gives shownNumber (negsuc 4)
     ∷ capturedGroup (tableWith 16 (0xFF ∷ 0xFB ∷ [])) 3001 1 gives (0xFF ∷ 0xFB ∷ [])
+    -- Memory 11,006: one file of one bare stamp starts; 11,005: 11
+    ∷ oneBareStamp 11006 gives (0 ∷ [])
+    ∷ oneBareStamp 11005 gives (11 ∷ [])
     ∷ []
 
 -- ---- the check

@@ -2,8 +2,8 @@
 //! Scans, frames and the archive worked out from the lists are below
 //! `src/machine/`.
 //!
-//! Only Fresh, Start, Scan and Frame are lent archive memory, so only they
-//! take its length.
+//! Every call is lent archive memory and takes its length, so Memory (1)
+//! applies to each.
 
 mod archive;
 mod frame;
@@ -14,8 +14,10 @@ mod tests;
 pub use archive::{newest_capture, pointer_after};
 
 use crate::card::{self, lowest, Answer};
-use crate::foreign::{slot_entry_is_good, unit_is_ours, RawState, ALL_GROUP_NUMBERS};
-use crate::layout::{layout_bytes, Definition, Definitions, ALARM_FILE, USER_FILES};
+use crate::foreign::{
+    definitions, foreign, slot_entry_is_good, unit_is_ours, RawState, ALL_GROUP_NUMBERS,
+};
+use crate::layout::{layout_bytes, record_bytes, Definition, Definitions, ALARM_FILE, USER_FILES};
 use crate::points::{is_boolean_or_none, judge_definition, GROUP_NUMBERS};
 use crate::record::Slot;
 
@@ -93,9 +95,36 @@ impl Machine {
         (checked.into(), machine)
     }
 
+    /// A state that is not Foreign, taken as it stands, though no list of
+    /// calls may leave it: each file has as many captures, all zeros, as its
+    /// pointer tells. What archive memory holds is for the caller to keep.
+    pub fn standing(raw: &RawState, remembered: Option<[u8; BOOLEAN_BYTES]>) -> Machine {
+        assert!(!foreign(raw), "a Foreign state is not taken");
+        let mut machine = all_off(raw.archive_len as usize, raw.day_first, raw.unit);
+        machine.running = raw.running;
+        machine.unlocked = raw.unlocked;
+        machine.pending = raw.pending;
+        machine.drafts = definitions(&raw.draft_groups, &raw.draft_n);
+        machine.layout = definitions(&raw.groups, &raw.n);
+        machine.triggers = raw.triggers;
+        for (i, slot) in machine.slots.iter_mut().enumerate() {
+            slot.point = raw.slot_point[i];
+            slot.kind = raw.slot_kind[i];
+            slot.float = raw.slot_float[i];
+        }
+        machine.remembered = remembered;
+        for file in 1..=ALARM_FILE {
+            let zeros = vec![0; record_bytes(&machine.layout, file)];
+            machine.captures[file - 1] = vec![zeros; usize::from(raw.pointers[file - 1])];
+        }
+        machine.requested = raw.requested;
+        machine
+    }
+
     /// Unlock: unlocked and pending on.
-    pub fn unlock(&mut self) -> Answer {
+    pub fn unlock(&mut self, archive_len: usize) -> Answer {
         let checked = lowest(&[
+            (card::MEMORY, archive_len != self.archive_len),
             (card::FOREIGN, self.is_foreign()),
             (card::RUNNING, self.running),
         ]);
@@ -107,8 +136,11 @@ impl Machine {
     }
 
     /// Lock: unlocked off.
-    pub fn lock(&mut self) -> Answer {
-        let checked = lowest(&[(card::FOREIGN, self.is_foreign())]);
+    pub fn lock(&mut self, archive_len: usize) -> Answer {
+        let checked = lowest(&[
+            (card::MEMORY, archive_len != self.archive_len),
+            (card::FOREIGN, self.is_foreign()),
+        ]);
         if checked.is_ok() {
             self.unlocked = false;
         }
@@ -116,8 +148,11 @@ impl Machine {
     }
 
     /// Stop: running off.
-    pub fn stop(&mut self) -> Answer {
-        let checked = lowest(&[(card::FOREIGN, self.is_foreign())]);
+    pub fn stop(&mut self, archive_len: usize) -> Answer {
+        let checked = lowest(&[
+            (card::MEMORY, archive_len != self.archive_len),
+            (card::FOREIGN, self.is_foreign()),
+        ]);
         if checked.is_ok() {
             self.running = false;
         }
@@ -144,8 +179,15 @@ impl Machine {
     }
 
     /// Define: replaces one file's draft.
-    pub fn define(&mut self, file: usize, groups: &[u16; GROUP_NUMBERS], n: u16) -> Answer {
+    pub fn define(
+        &mut self,
+        archive_len: usize,
+        file: usize,
+        groups: &[u16; GROUP_NUMBERS],
+        n: u16,
+    ) -> Answer {
         let checked = lowest(&[
+            (card::MEMORY, archive_len != self.archive_len),
             (card::FOREIGN, self.is_foreign()),
             (card::FILE, !is_user_file(file)),
             (card::LOCKED, !self.unlocked),
@@ -158,8 +200,9 @@ impl Machine {
     }
 
     /// Trigger: a Boolean, or 0 for none. Empties nothing.
-    pub fn trigger(&mut self, file: usize, point: u16) -> Answer {
+    pub fn trigger(&mut self, archive_len: usize, file: usize, point: u16) -> Answer {
         let checked = lowest(&[
+            (card::MEMORY, archive_len != self.archive_len),
             (card::FOREIGN, self.is_foreign()),
             (card::FILE, !is_user_file(file)),
             (card::TRIGGER, !is_boolean_or_none(point)),
@@ -171,10 +214,21 @@ impl Machine {
     }
 
     /// Alarm: sets one slot. Empties nothing.
-    pub fn alarm(&mut self, slot: usize, point: u16, kind: u16, float: u16) -> Answer {
+    pub fn alarm(
+        &mut self,
+        archive_len: usize,
+        slot: usize,
+        point: u16,
+        kind: u16,
+        float: u16,
+    ) -> Answer {
         let slot_exists = (1..=SLOTS).contains(&slot);
         let good = slot_exists && slot_entry_is_good(point, kind, float);
-        let checked = lowest(&[(card::FOREIGN, self.is_foreign()), (card::ALARM, !good)]);
+        let checked = lowest(&[
+            (card::MEMORY, archive_len != self.archive_len),
+            (card::FOREIGN, self.is_foreign()),
+            (card::ALARM, !good),
+        ]);
         if checked.is_ok() {
             let kind = kind as u8;
             self.slots[slot - 1] = Slot { point, kind, float };

@@ -4,7 +4,6 @@
 use super::*;
 use crate::card::Refusal;
 use crate::crc;
-use crate::foreign::foreign;
 use crate::points::{groups_from_first_place, TABLE_BYTES};
 use crate::record::Stamp;
 
@@ -57,9 +56,9 @@ fn refused(answer: Answer, number: u8) {
 /// A running machine whose file 1 has n records of one 16-bit point.
 fn running_with_file_1(n: u16) -> Machine {
     let mut machine = fresh();
-    done(machine.unlock());
-    done(machine.define(1, &groups_from_first_place(&[(3001, 1)]), n));
-    done(machine.trigger(1, FLAG));
+    done(machine.unlock(ARCHIVE));
+    done(machine.define(ARCHIVE, 1, &groups_from_first_place(&[(3001, 1)]), n));
+    done(machine.trigger(ARCHIVE, 1, FLAG));
     done(machine.start(ARCHIVE));
     machine
 }

@@ -46,9 +46,9 @@ fn a_number_not_1_to_n_is_exception_03() {
 #[test]
 fn blunder_replies_go_by_the_layout_not_the_draft() {
     let mut machine = with_three_captures();
-    done(machine.stop());
-    done(machine.unlock());
-    done(machine.define(1, &groups_from_first_place(&[(4001, 2)]), 2));
+    done(machine.stop(ARCHIVE));
+    done(machine.unlock(ARCHIVE));
+    done(machine.define(ARCHIVE, 1, &groups_from_first_place(&[(4001, 2)]), 2));
     assert_eq!(ask(&mut machine, UNIT, 3, 721, 2), read_reply(&RECORD_2));
     assert_eq!(ask(&mut machine, UNIT, 3, 721, 4), read_reply(&[0; 8]));
     let registers = read_reply(&[0, 4, 0, 3, 0, 0]);
@@ -171,8 +171,8 @@ fn a_function_with_its_highest_bit_set_keeps_it() {
 #[test]
 fn a_record_of_250_bytes_fills_a_reply_of_255() {
     let mut machine = fresh();
-    done(machine.unlock());
-    done(machine.define(10, &groups_from_first_place(&[(7101, 61)]), 1));
+    done(machine.unlock(ARCHIVE));
+    done(machine.define(ARCHIVE, 10, &groups_from_first_place(&[(7101, 61)]), 1));
     done(machine.start(ARCHIVE));
     assert_eq!(ask(&mut machine, UNIT, 3, 730, 1), read_reply(&[0; 250]));
 }

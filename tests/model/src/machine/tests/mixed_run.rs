@@ -38,13 +38,13 @@ fn one_call(machine: &mut Machine, mixer: &mut Mixer) -> Answer {
     let file = mixer.below(12) as usize;
     let point = 1800 + mixer.below(10) as u16;
     match mixer.below(40) {
-        0 => machine.unlock(),
-        1 => machine.lock(),
-        2 => machine.stop(),
+        0 => machine.unlock(ARCHIVE),
+        1 => machine.lock(ARCHIVE),
+        2 => machine.stop(ARCHIVE),
         3..=5 => machine.start(ARCHIVE + (mixer.below(9) / 8) as usize),
-        6..=11 => machine.define(file, &some_groups(mixer), mixer.below(40) as u16),
-        12..=15 => machine.trigger(file, point),
-        16..=19 => machine.alarm(3 * file, point, mixer.below(5) as u16, 0),
+        6..=11 => machine.define(ARCHIVE, file, &some_groups(mixer), mixer.below(40) as u16),
+        12..=15 => machine.trigger(ARCHIVE, file, point),
+        16..=19 => machine.alarm(ARCHIVE, 3 * file, point, mixer.below(5) as u16, 0),
         20..=34 => {
             let stamp = at_second(mixer.below(63) as u8);
             machine.scan(ARCHIVE, &a_table(mixer), stamp)

@@ -56,9 +56,9 @@ fn blunder_the_pointer_names_the_newest_record() {
 #[test]
 fn blunder_a_flag_raised_while_stopped_is_not_captured() {
     let mut machine = running_with_file_1(4);
-    done(machine.alarm(1, FLAG, 0, 0));
+    done(machine.alarm(ARCHIVE, 1, FLAG, 0, 0));
     scan(&mut machine, &[], 1);
-    done(machine.stop());
+    done(machine.stop(ARCHIVE));
     scan(&mut machine, &[FLAG], 2);
     done(machine.start(ARCHIVE));
     scan(&mut machine, &[FLAG], 3);
@@ -95,9 +95,9 @@ fn a_steady_or_falling_trigger_captures_nothing() {
 #[test]
 fn idle_files_and_files_without_a_trigger_capture_nothing() {
     let mut machine = fresh();
-    done(machine.unlock());
-    done(machine.define(2, &[0; 32], 3));
-    done(machine.trigger(1, FLAG));
+    done(machine.unlock(ARCHIVE));
+    done(machine.define(ARCHIVE, 2, &[0; 32], 3));
+    done(machine.trigger(ARCHIVE, 1, FLAG));
     done(machine.start(ARCHIVE));
     capture(&mut machine, 2);
     assert!((1..=11).all(|file| machine.captures(file).is_empty()));
@@ -106,12 +106,12 @@ fn idle_files_and_files_without_a_trigger_capture_nothing() {
 #[test]
 fn archive_memory_holds_the_files_in_order() {
     let mut machine = fresh();
-    done(machine.unlock());
-    done(machine.define(1, &groups_from_first_place(&[(3001, 1)]), 2));
-    done(machine.define(3, &[0; 32], 3));
-    done(machine.trigger(1, FLAG));
-    done(machine.trigger(3, FLAG));
-    done(machine.alarm(1, FLAG, 1, 0));
+    done(machine.unlock(ARCHIVE));
+    done(machine.define(ARCHIVE, 1, &groups_from_first_place(&[(3001, 1)]), 2));
+    done(machine.define(ARCHIVE, 3, &[0; 32], 3));
+    done(machine.trigger(ARCHIVE, 1, FLAG));
+    done(machine.trigger(ARCHIVE, 3, FLAG));
+    done(machine.alarm(ARCHIVE, 1, FLAG, 1, 0));
     done(machine.start(ARCHIVE));
     capture(&mut machine, 3);
     let memory = machine.archive_memory();
@@ -127,11 +127,11 @@ fn archive_memory_holds_the_files_in_order() {
 #[test]
 fn alarms_go_by_point_then_slot() {
     let mut machine = fresh();
-    done(machine.alarm(1, 1928, 0, 0));
-    done(machine.alarm(2, 1801, 2, 0));
-    done(machine.alarm(3, 1850, 1, 0));
-    done(machine.alarm(31, 1801, 1, 0));
-    done(machine.alarm(32, 1801, 3, 0));
+    done(machine.alarm(ARCHIVE, 1, 1928, 0, 0));
+    done(machine.alarm(ARCHIVE, 2, 1801, 2, 0));
+    done(machine.alarm(ARCHIVE, 3, 1850, 1, 0));
+    done(machine.alarm(ARCHIVE, 31, 1801, 1, 0));
+    done(machine.alarm(ARCHIVE, 32, 1801, 3, 0));
     done(machine.start(ARCHIVE));
     scan(&mut machine, &[1850], 1);
     scan(&mut machine, &[1801, 1928], 2);
@@ -172,7 +172,7 @@ fn a_clock_may_go_back() {
 #[test]
 fn a_day_first_gateway_stamps_day_first() {
     let mut machine = Machine::fresh(ARCHIVE, true, UNIT).1;
-    done(machine.alarm(1, FLAG, 1, 0));
+    done(machine.alarm(ARCHIVE, 1, FLAG, 1, 0));
     done(machine.start(ARCHIVE));
     capture(&mut machine, 1);
     assert_eq!(machine.record(11, 1)[..6], [29, 8, 7, 11, 36, 1]);

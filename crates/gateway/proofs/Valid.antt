@@ -1,0 +1,233 @@
+-- A call on a valid state leaves a valid state. Assumes nothing.
+--     valid-split, valid-join     a valid state, clause by clause of row 2
+--     unlock-valid, lock-valid, ..     the calls
+--     fresh-valid     what Fresh leaves
+use mathlib.Core.Path.{_≡_, refl, ap, _∙_}
+use mathlib.Core.List.{List}
+use mathlib.Core.Bool.{Bool, true, false, cond, not, _&&_}
+use Prim.Native.Nat.{ℕ, _-_, _≤_}
+use native.Mathlib.Omega.{arith}
+use borrow.Author.Tests.{le-leb}
+use lib.Dec.{leb}
+use lib.ListN.{getD, set, replicate, getD-replicate}
+use Rattle.basics.specs.Numbers.{within}
+use Rattle.basics.proofs.Tests.{and-left, and-right}
+use Rattle.gateway.specs.declared.state.State.{State}
+use Rattle.gateway.specs.declared.state.Slot.{Slot}
+use Rattle.gateway.specs.declared.calls.Answer.{Answer}
+use Rattle.gateway.specs.Layout.{every, isGood, goodFiles, fileSize, base, layoutSize, hasRoom}
+use Rattle.gateway.specs.State.{offSlot, freshState, withFlags, withDraft, withTriggers, withSlots, laidOut}
+use Rattle.gateway.specs.Validity.{booleanOrNone, goodTriggers, goodSlot, goodSlotAt, goodSlots, withinFiles, withinLimits, archiveValid, settingsValid, valid}
+use Rattle.gateway.specs.Calls.{told, unlockAnswer, lockAnswer, stopAnswer, triggerAnswer, alarmAnswer, drafted, defineAnswer, freshNumber, startAnswer}
+use Rattle.points.specs.Table.{floatOrNone}
+use Rattle.points.specs.Groups.{judgedCard, firstBad, recordSize, groupsSize, groupOf, unused}
+use Rattle.gateway.proofs.Answers.{within-inside}
+use Rattle.gateway.proofs.Drafts.{drafts-stay-good}
+use Rattle.gateway.proofs.Laws.{every-at, every-all, set-holds}
+use Rattle.gateway.proofs.Settings.{by-unlock, by-lock, by-stop, by-trigger, by-alarm, by-define, by-start}
+
+-- ---- clause by clause
+pub record Clauses (s : State) : Type 0 where
+  pub flags : not (s .running && s .unlocked) ≡ true
+  pub drafts : goodFiles (s .draft .groups) ≡ true
+  pub triggers : goodTriggers (s .triggers) ≡ true
+  pub slots : goodSlots (s .slots) ≡ true
+  pub laid : goodFiles (s .layout .groups) ≡ true
+  pub room : hasRoom (s .layout .groups) (s .layout .limits) (s .site .archive) ≡ true
+  pub pointers : withinLimits (s .pointers) (s .layout .limits) ≡ true
+  pub requested : withinLimits (s .requested) (s .layout .limits) ≡ true
+  pub unit : within 1 247 (s .site .unit) ≡ true
+
+both : (a b : Bool) → (a && b) ≡ true → (a ≡ true) × (b ≡ true)
+both a b h = (and-left a b h, and-right a b h)
+
+pub valid-split : (s : State) → valid s ≡ true → Clauses s
+unfolding valid settingsValid archiveValid
+valid-split s v =
+    let one = both _ _ v in
+    let two = both (settingsValid s) _ (one .1) in
+    let three = both (archiveValid (s .layout) (s .site .archive) (s .pointers) (s .requested)) _ (two .1) in
+    let drafts = both (goodFiles (s .draft .groups)) _ (two .0) in
+    let settings = both (goodTriggers (s .triggers)) (goodSlots (s .slots)) (drafts .1) in
+    let laid = both (goodFiles (s .layout .groups)) _ (three .0) in
+    let room = both (hasRoom (s .layout .groups) (s .layout .limits) (s .site .archive)) _ (laid .1) in
+    let numbers = both (withinLimits (s .pointers) (s .layout .limits)) (withinLimits (s .requested) (s .layout .limits)) (room .1) in
+    record {
+      flags = one .0;
+      drafts = drafts .0;
+      triggers = settings .0;
+      slots = settings .1;
+      laid = laid .0;
+      room = room .0;
+      pointers = numbers .0;
+      requested = numbers .1;
+      unit = three .1;
+    }
+
+pub valid-join : (s : State) → Clauses s → valid s ≡ true
+unfolding valid settingsValid archiveValid
+valid-join s k =
+    simp (k .flags, k .drafts, k .triggers, k .slots, k .laid, k .room, k .pointers, k .requested, k .unit)
+
+-- ---- flags
+flags-valid : (s : State) (running unlocked pending : Bool) → not (running && unlocked) ≡ true → valid s ≡ true →
+    valid (withFlags s running unlocked pending) ≡ true
+flags-valid s running unlocked pending apart v =
+    let k = valid-split s v in
+    valid-join (withFlags s running unlocked pending) (record {
+      flags = apart;
+      drafts = k .drafts;
+      triggers = k .triggers;
+      slots = k .slots;
+      laid = k .laid;
+      room = k .room;
+      pointers = k .pointers;
+      requested = k .requested;
+      unit = k .unit;
+    })
+
+not-both : (a : Bool) → not (a && false) ≡ true
+not-both true = refl
+not-both false = refl
+
+-- ---- empty lists
+-- a pointer or requested number of 0 is within any limit
+pub zeros-within : (limits : List ℕ) → withinLimits (replicate 11 0) limits ≡ true
+unfolding withinLimits withinFiles
+zeros-within limits = simp (every-all (λ i. leb (getD (replicate 11 0) i 0) (getD limits i 0)) 10 (λ i below.
+    ap (λ x. leb x (getD limits i 0)) (getD-replicate 11 i 0 0 (omega (arith, below))) ∙ le-leb 0 (getD limits i 0) (omega arith)))
+
+judged-is-good : (gs : List ℕ) → judgedCard gs .number ≡ 0 → isGood gs ≡ true
+unfolding isGood
+judged-is-good gs good = simp good
+
+-- ---- idle files, no triggers, slots off
+idle-good : goodFiles (replicate 320 0) ≡ true
+unfolding goodFiles every isGood judgedCard firstBad recordSize groupsSize groupOf unused
+idle-good = refl
+
+no-triggers : goodTriggers (replicate 10 0) ≡ true
+unfolding goodTriggers every booleanOrNone
+no-triggers = refl
+
+no-slots : goodSlots (replicate 32 offSlot) ≡ true
+unfolding goodSlots every goodSlot booleanOrNone floatOrNone
+no-slots = refl
+
+idle-fits : (size : ℕ) → 11000 ≤ size → hasRoom (replicate 320 0) (replicate 10 0) size ≡ true
+unfolding hasRoom layoutSize base fileSize recordSize groupsSize groupOf unused
+idle-fits size long = le-leb 11000 size long
+
+fresh-parts : (unit size : ℕ) → freshNumber unit size ≡ 0 → (within 11000 1048576 size ≡ true) × (within 1 247 unit ≡ true)
+unfolding freshNumber
+fresh-parts unit size taken = go (within 11000 1048576 size) (within 1 247 unit) taken
+  where
+    go : (a b : Bool) → _≡_ {A = ℕ} (cond (not a) 1 (cond (not b) 2 0)) 0 → (a ≡ true) × (b ≡ true)
+    go false b q = absurd (omega (arith, q))
+    go true false q = absurd (omega (arith, q))
+    go true true q = (refl, refl)
+
+-- ---- the calls
+-- the answer's state is valid if the one given is
+abbrev pub Stays : State → Answer → Type 0
+Stays s r = valid s ≡ true → valid (r .state) ≡ true
+
+module _ (s : State) (size : ℕ) where
+  same : (n v : ℕ) → Stays s (told s n v)
+  same n v = λ v. v
+
+  pub unlock-valid : Stays s (unlockAnswer s size)
+  unlock-valid = by-unlock (Stays s) s size same (λ _ rests. flags-valid s (s .running) true true (ap (λ b. not (b && true)) rests))
+
+  pub lock-valid : Stays s (lockAnswer s size)
+  lock-valid = by-lock (Stays s) s size same (λ _. flags-valid s (s .running) false (s .pending) (not-both (s .running)))
+
+  pub stop-valid : Stays s (stopAnswer s size)
+  stop-valid = by-stop (Stays s) s size same (λ _. flags-valid s false (s .unlocked) (s .pending) refl)
+
+  pub trigger-valid : (f p : ℕ) → Stays s (triggerAnswer s size f p)
+  unfolding goodTriggers
+  trigger-valid f p = by-trigger (Stays s) s size same f p (λ _ good v.
+      let k = valid-split s v in
+      let set-good = every-all (λ i. booleanOrNone (getD (set (s .triggers) (f - 1) p) i 0)) 10 (λ i below.
+      set-holds booleanOrNone (s .triggers) (f - 1) i p 0 good (every-at (λ j. booleanOrNone (getD (s .triggers) j 0)) 10 i (k .triggers) below)) in
+      valid-join (withTriggers s (set (s .triggers) (f - 1) p)) (record {
+        flags = k .flags;
+        drafts = k .drafts;
+        triggers = set-good;
+        slots = k .slots;
+        laid = k .laid;
+        room = k .room;
+        pointers = k .pointers;
+        requested = k .requested;
+        unit = k .unit;
+      }))
+
+  pub alarm-valid : (k point kind transducer : ℕ) → Stays s (alarmAnswer s size k point kind transducer)
+  unfolding goodSlots
+  alarm-valid n point kind transducer = by-alarm (Stays s) s size same n point kind transducer (λ _ good v.
+      let entry : Slot = record { point = point; transducer = transducer; kind = kind } in
+      let k = valid-split s v in
+      let set-good = every-all (goodSlotAt (set (s .slots) (n - 1) entry)) 32 (λ i below.
+      set-holds (λ slot. goodSlot (slot .point) (slot .kind) (slot .transducer)) (s .slots) (n - 1) i entry offSlot good
+      (every-at (goodSlotAt (s .slots)) 32 i (k .slots) below)) in
+      valid-join (withSlots s (set (s .slots) (n - 1) entry)) (record {
+        flags = k .flags;
+        drafts = k .drafts;
+        triggers = k .triggers;
+        slots = set-good;
+        laid = k .laid;
+        room = k .room;
+        pointers = k .pointers;
+        requested = k .requested;
+        unit = k .unit;
+      }))
+
+  pub start-valid : Stays s (startAnswer s size)
+  start-valid = by-start (Stays s) s size same
+      (λ _ _ fits v.
+      let k = valid-split s v in
+      valid-join (withFlags (laidOut s) true false false) (record {
+        flags = refl;
+        drafts = k .drafts;
+        triggers = k .triggers;
+        slots = k .slots;
+        laid = k .drafts;
+        room = fits;
+        pointers = zeros-within (s .draft .limits);
+        requested = zeros-within (s .draft .limits);
+        unit = k .unit;
+      }))
+      (λ _ none v. flags-valid s true false (s .pending) refl v)
+
+  pub define-valid : (f : ℕ) (gs : List ℕ) (n : ℕ) → Stays s (defineAnswer s size f gs n)
+  define-valid f gs n = by-define (Stays s) s size same f gs n (λ _ file good v.
+      let k = valid-split s v in
+      let new = drafts-stay-good (s .draft .groups) gs (f - 1) (omega (arith, within-inside 1 10 f file)) (k .drafts) (judged-is-good gs good) in
+      valid-join (withDraft s (drafted (s .draft) (f - 1) gs n)) (record {
+        flags = k .flags;
+        drafts = new;
+        triggers = k .triggers;
+        slots = k .slots;
+        laid = k .laid;
+        room = k .room;
+        pointers = k .pointers;
+        requested = k .requested;
+        unit = k .unit;
+      }))
+
+-- ---- Fresh
+pub fresh-valid : (dayFirst : Bool) (unit size : ℕ) → freshNumber unit size ≡ 0 → valid (freshState dayFirst unit size) ≡ true
+unfolding freshState
+fresh-valid dayFirst unit size taken =
+    valid-join (freshState dayFirst unit size) (record {
+      flags = refl;
+      drafts = idle-good;
+      triggers = no-triggers;
+      slots = no-slots;
+      laid = idle-good;
+      room = idle-fits size (within-inside 11000 1048576 size (fresh-parts unit size taken .0) .0);
+      pointers = zeros-within (replicate 10 0);
+      requested = zeros-within (replicate 10 0);
+      unit = fresh-parts unit size taken .1;
+    })

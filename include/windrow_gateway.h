@@ -1,0 +1,109 @@
+/*
+ * windrow_gateway.h: the gateway's archive, for its firmware. Link libgateway.a.
+ *
+ * Every call but fresh takes the gateway's state and the archive memory, and answers a struct with the new state, which the next
+ * call is given. `number` is the service card's: 0 is done, anything else a refusal, and then the state is the one given and the
+ * archive is as it was. Nothing is allocated or kept. Any content of state and archive is answered: an archive of another length
+ * than the state's by WINDROW_MEMORY (1), a state against the rules by WINDROW_FOREIGN (2), and then the call's own numbers, the
+ * lowest first. Only a bool that is neither 0 nor 1 must not be handed in, and the pointers must not be null, even with a length of
+ * 0. Keep state and archive together: they may be stored, and handed back later as they were.
+ */
+#ifndef WINDROW_GATEWAY_H
+#define WINDROW_GATEWAY_H
+
+#include <stdbool.h>
+#include <stddef.h>
+#include <stdint.h>
+
+#include "windrow_card.h"
+
+#ifdef __cplusplus
+extern "C" {
+#endif
+
+/* What fresh fixes: the archive's length, our unit (1-247) and the date order. */
+struct windrow_site {
+    uint32_t archive;
+    uint8_t unit;
+    bool dayfirst;
+};
+
+/*
+ * The definitions of files 1-10. The 32 group numbers of file f, a first point and a number of points for each of 16 places, start
+ * at groups[32 * (f - 1)]; the most records that it holds are limits[f - 1], and 0 is an idle file.
+ */
+struct windrow_files {
+    uint16_t groups[320];
+    uint16_t limits[10];
+};
+
+/* An alarm slot: a Boolean point or 0 for off, the transducer's float point or 0, and a type 0-3. */
+struct windrow_slot {
+    uint16_t point;
+    uint16_t transducer;
+    uint8_t kind;
+};
+
+/* All that the gateway knows but the archive's bytes. Index 0 is file 1 or slot 1; the eleventh file is the alarm file. */
+struct windrow_state {
+    struct windrow_site site;
+    bool running;
+    bool unlocked;
+    bool pending;                 /* the next start lays out the draft and empties every file */
+    bool scanned;                 /* a scan has been accepted, and booleans are its Booleans */
+    struct windrow_files draft;   /* what define sets */
+    struct windrow_files layout;  /* what captures and reads follow */
+    uint16_t triggers[10];        /* a Boolean point, or 0 for none */
+    struct windrow_slot slots[32];
+    uint8_t booleans[16];
+    uint16_t pointers[11];        /* the record captured last, 0 for none */
+    uint16_t requested[11];       /* the record that a poll of 700+f or 750+f reads */
+};
+
+struct windrow_gateway_answer {
+    uint32_t number;
+    uint32_t carried; /* 0 but for WINDROW_GROUP (7) */
+    struct windrow_state state;
+};
+
+/*
+ * A new gateway over 11,000 to 1,048,576 bytes of memory, which are set to zeros. Refused with 1 or 2, it hands back a state of
+ * zeros and leaves the memory alone.
+ */
+struct windrow_gateway_answer windrow_gateway_fresh(bool day_first, uint8_t unit, uint8_t *archive, size_t archive_length);
+
+/* Unlocked and pending on, so that files can be defined. Refused with 10 while running. */
+struct windrow_gateway_answer windrow_gateway_unlock(struct windrow_state state, const uint8_t *archive, size_t archive_length);
+
+/* Unlocked off. */
+struct windrow_gateway_answer windrow_gateway_lock(struct windrow_state state, const uint8_t *archive, size_t archive_length);
+
+/* Running off. */
+struct windrow_gateway_answer windrow_gateway_stop(struct windrow_state state, const uint8_t *archive, size_t archive_length);
+
+/*
+ * Running on, unlocked off. If pending, the draft becomes the layout, every file is emptied, the whole archive is set to zeros, the
+ * requested numbers are 0, and pending is off; refused with 11 where the draft does not fit the archive.
+ */
+struct windrow_gateway_answer windrow_gateway_start(struct windrow_state state, uint8_t *archive, size_t archive_length);
+
+/*
+ * Replaces the draft of a file, 1-10: groups points at 32 numbers, limit is the most records. Refused with 5, with 6 while not
+ * unlocked, with 7 (carried is the first bad group's place) or with 8.
+ */
+struct windrow_gateway_answer windrow_gateway_define(struct windrow_state state, const uint8_t *archive, size_t archive_length,
+                                                     uint32_t file, const uint16_t *groups, uint16_t limit);
+
+/* The Boolean point whose rise captures a record of a file, 1-10; 0 for none. At any time, empties nothing. Refused with 5 or 9. */
+struct windrow_gateway_answer windrow_gateway_trigger(struct windrow_state state, const uint8_t *archive, size_t archive_length,
+                                                      uint32_t file, uint16_t point);
+
+/* Sets an alarm slot, 1-32. At any time, empties nothing. Refused with 12; each entry is checked even where point is 0. */
+struct windrow_gateway_answer windrow_gateway_alarm(struct windrow_state state, const uint8_t *archive, size_t archive_length,
+                                                    uint32_t slot, uint16_t point, uint8_t kind, uint16_t transducer);
+
+#ifdef __cplusplus
+}
+#endif
+
+#endif

@@ -1,0 +1,155 @@
+/*
+ * A gateway's firmware in C: makes a gateway, defines a file, starts it, sets a trigger and an alarm slot, and is refused what the
+ * service card refuses; asserts the header's layout. Offsets and sizes are worked out by hand from C's rules for x86-64, and the
+ * expected lines are written from document 01. The reader's header is included as well: both serve one file.
+ */
+#include <assert.h>
+#include <stdio.h>
+#include <string.h>
+
+#include "windrow_gateway.h"
+#include "windrow_reader.h"
+
+#define ROOMY 11006 /* the alarm file's 11,000 bytes and one bare stamp */
+#define TIGHT 11005
+
+static uint8_t archive[ROOMY + 1];
+
+static const uint16_t bare_stamp[32] = {0};
+static const uint16_t fine[32] = {7101, 61};                  /* 6 + 61 x 4 = 250 bytes */
+static const uint16_t over_long[32] = {7101, 61, 3001, 1};    /* 252 bytes */
+static const uint16_t past_the_row[32] = {0, 0, 7228, 1, 7228, 2}; /* place 3 ends at 7229 */
+
+static void check_layout(void)
+{
+    assert(sizeof(struct windrow_site) == 8); /* 6, rounded up to its alignment of 4 */
+    assert(offsetof(struct windrow_site, archive) == 0);
+    assert(offsetof(struct windrow_site, unit) == 4);
+    assert(offsetof(struct windrow_site, dayfirst) == 5);
+
+    assert(sizeof(struct windrow_files) == 660);
+    assert(offsetof(struct windrow_files, groups) == 0);
+    assert(offsetof(struct windrow_files, limits) == 640);
+
+    assert(sizeof(struct windrow_slot) == 6); /* 5, rounded up to its alignment of 2 */
+    assert(offsetof(struct windrow_slot, point) == 0);
+    assert(offsetof(struct windrow_slot, transducer) == 2);
+    assert(offsetof(struct windrow_slot, kind) == 4);
+
+    assert(sizeof(struct windrow_state) == 1604);
+    assert(offsetof(struct windrow_state, site) == 0);
+    assert(offsetof(struct windrow_state, running) == 8);
+    assert(offsetof(struct windrow_state, unlocked) == 9);
+    assert(offsetof(struct windrow_state, pending) == 10);
+    assert(offsetof(struct windrow_state, scanned) == 11);
+    assert(offsetof(struct windrow_state, draft) == 12);
+    assert(offsetof(struct windrow_state, layout) == 672);
+    assert(offsetof(struct windrow_state, triggers) == 1332);
+    assert(offsetof(struct windrow_state, slots) == 1352);
+    assert(offsetof(struct windrow_state, booleans) == 1544);
+    assert(offsetof(struct windrow_state, pointers) == 1560);
+    assert(offsetof(struct windrow_state, requested) == 1582);
+
+    assert(sizeof(struct windrow_gateway_answer) == 1612);
+    assert(offsetof(struct windrow_gateway_answer, number) == 0);
+    assert(offsetof(struct windrow_gateway_answer, carried) == 4);
+    assert(offsetof(struct windrow_gateway_answer, state) == 8);
+}
+
+/* Prints what a call answered and hands on its state. */
+static struct windrow_state told(const char *call, struct windrow_gateway_answer a)
+{
+    printf("%s: %u", call, a.number);
+    if (a.number == WINDROW_GROUP)
+        printf(" carrying %u", a.carried);
+    else
+        assert(a.carried == 0);
+    printf(", running %d unlocked %d pending %d\n", a.state.running, a.state.unlocked, a.state.pending);
+    return a.state;
+}
+
+/* How many of the archive's bytes are not 0. */
+static unsigned filled(void)
+{
+    unsigned n = 0;
+    for (size_t i = 0; i < sizeof archive; i++)
+        n += archive[i] != 0;
+    return n;
+}
+
+static void one_bare_stamp(void)
+{
+    memset(archive, 0xEE, sizeof archive);
+    struct windrow_state s = told("fresh", windrow_gateway_fresh(true, 17, archive, ROOMY));
+    printf("archive %u, unit %u, day first %d, filled bytes %u\n", s.site.archive, s.site.unit, s.site.dayfirst, filled());
+    s = told("define while locked", windrow_gateway_define(s, archive, ROOMY, 1, bare_stamp, 1));
+    s = told("unlock", windrow_gateway_unlock(s, archive, ROOMY));
+    s = told("define file 0", windrow_gateway_define(s, archive, ROOMY, 0, past_the_row, 1));
+    s = told("define file 11", windrow_gateway_define(s, archive, ROOMY, 11, bare_stamp, 1));
+    s = told("define past the row", windrow_gateway_define(s, archive, ROOMY, 1, past_the_row, 1));
+    s = told("define 252 bytes", windrow_gateway_define(s, archive, ROOMY, 1, over_long, 1));
+    s = told("define 250 bytes", windrow_gateway_define(s, archive, ROOMY, 10, fine, 1));
+    printf("draft of file 10: %u of (%u,%u)\n", s.draft.limits[9], s.draft.groups[288], s.draft.groups[289]);
+    s = told("start without room", windrow_gateway_start(s, archive, ROOMY));
+    s = told("define file 10 idle", windrow_gateway_define(s, archive, ROOMY, 10, fine, 0));
+    s = told("define a bare stamp", windrow_gateway_define(s, archive, ROOMY, 1, bare_stamp, 1));
+    memset(archive, 0xEE, ROOMY);
+    s = told("start with a byte less", windrow_gateway_start(s, archive, ROOMY - 1));
+    printf("filled bytes %u, laid out %u\n", filled(), s.layout.limits[0]);
+    s = told("start", windrow_gateway_start(s, archive, ROOMY));
+    printf("filled bytes %u, laid out %u and %u of (%u,%u)\n", filled(), s.layout.limits[0], s.layout.limits[9],
+           s.layout.groups[288], s.layout.groups[289]);
+    s = told("unlock while running", windrow_gateway_unlock(s, archive, ROOMY));
+
+    s = told("trigger", windrow_gateway_trigger(s, archive, ROOMY, 1, 1928));
+    s = told("trigger past the Booleans", windrow_gateway_trigger(s, archive, ROOMY, 1, 1929));
+    s = told("trigger of file 11", windrow_gateway_trigger(s, archive, ROOMY, 11, 1929));
+    printf("trigger of file 1: %u\n", s.triggers[0]);
+    s = told("alarm", windrow_gateway_alarm(s, archive, ROOMY, 32, 1801, 3, 7228));
+    s = told("alarm of type 4", windrow_gateway_alarm(s, archive, ROOMY, 32, 0, 4, 0));
+    s = told("alarm slot 33", windrow_gateway_alarm(s, archive, ROOMY, 33, 1801, 0, 0));
+    s = told("alarm on a float", windrow_gateway_alarm(s, archive, ROOMY, 1, 7101, 0, 0));
+    printf("slot 32: point %u type %u transducer %u\n", s.slots[31].point, s.slots[31].kind, s.slots[31].transducer);
+
+    memset(archive, 0xEE, ROOMY);
+    s = told("stop", windrow_gateway_stop(s, archive, ROOMY));
+    s = told("start again", windrow_gateway_start(s, archive, ROOMY));
+    printf("filled bytes %u\n", filled());
+    s = told("stop", windrow_gateway_stop(s, archive, ROOMY));
+    s = told("unlock", windrow_gateway_unlock(s, archive, ROOMY));
+    s = told("lock", windrow_gateway_lock(s, archive, ROOMY));
+
+    s.running = true;
+    s.unlocked = true;
+    told("stop a damaged state", windrow_gateway_stop(s, archive, ROOMY));
+    told("and with a byte less", windrow_gateway_stop(s, archive, ROOMY - 1));
+}
+
+static void no_room(void)
+{
+    struct windrow_state s = told("fresh", windrow_gateway_fresh(false, 17, archive, TIGHT));
+    s = told("unlock", windrow_gateway_unlock(s, archive, TIGHT));
+    s = told("define a bare stamp", windrow_gateway_define(s, archive, TIGHT, 1, bare_stamp, 1));
+    told("start", windrow_gateway_start(s, archive, TIGHT));
+}
+
+static void refused_fresh(void)
+{
+    static const struct windrow_state zeros;
+    memset(archive, 0xEE, sizeof archive);
+    struct windrow_state s = told("fresh with 10,999 bytes and unit 0", windrow_gateway_fresh(true, 0, archive, 10999));
+    s = told("fresh with unit 248", windrow_gateway_fresh(true, 248, archive, ROOMY));
+    printf("filled bytes %u, archive %u, zeros %d\n", filled(), s.site.archive, s.site.unit == 0 && !s.site.dayfirst
+           && memcmp(&s.draft, &zeros.draft, sizeof s.draft) == 0 && memcmp(&s.layout, &zeros.layout, sizeof s.layout) == 0);
+    told("unlock the zeros", windrow_gateway_unlock(s, archive, 0));
+    told("unlock the zeros over memory", windrow_gateway_unlock(s, archive, ROOMY));
+}
+
+int main(void)
+{
+    check_layout();
+    one_bare_stamp();
+    no_room();
+    refused_fresh();
+    return 0;
+}

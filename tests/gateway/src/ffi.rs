@@ -1,0 +1,110 @@
+//! The exported functions of libgateway.a, as include/windrow_gateway.h declares them.
+
+#[repr(C)]
+#[derive(Clone, Copy, Debug, PartialEq, Eq)]
+pub struct Site {
+    pub archive: u32,
+    pub unit: u8,
+    pub dayfirst: bool,
+}
+
+#[repr(C)]
+#[derive(Clone, Copy, Debug, PartialEq, Eq)]
+pub struct Files {
+    pub groups: [u16; 320],
+    pub limits: [u16; 10],
+}
+
+#[repr(C)]
+#[derive(Clone, Copy, Debug, PartialEq, Eq)]
+pub struct Slot {
+    pub point: u16,
+    pub transducer: u16,
+    pub kind: u8,
+}
+
+#[repr(C)]
+#[derive(Clone, Copy, Debug, PartialEq, Eq)]
+pub struct State {
+    pub site: Site,
+    pub running: bool,
+    pub unlocked: bool,
+    pub pending: bool,
+    pub scanned: bool,
+    pub draft: Files,
+    pub layout: Files,
+    pub triggers: [u16; 10],
+    pub slots: [Slot; 32],
+    pub booleans: [u8; 16],
+    pub pointers: [u16; 11],
+    pub requested: [u16; 11],
+}
+
+#[repr(C)]
+#[derive(Clone, Copy, Debug, PartialEq, Eq)]
+pub struct Answer {
+    pub number: u32,
+    pub carried: u32,
+    pub state: State,
+}
+
+#[link(name = "gateway", kind = "static")]
+extern "C" {
+    fn windrow_gateway_fresh(day_first: bool, unit: u8, archive: *mut u8, len: usize) -> Answer;
+    fn windrow_gateway_unlock(s: State, archive: *const u8, len: usize) -> Answer;
+    fn windrow_gateway_lock(s: State, archive: *const u8, len: usize) -> Answer;
+    fn windrow_gateway_stop(s: State, archive: *const u8, len: usize) -> Answer;
+    fn windrow_gateway_start(s: State, archive: *mut u8, len: usize) -> Answer;
+    fn windrow_gateway_define(
+        s: State,
+        archive: *const u8,
+        len: usize,
+        file: u32,
+        groups: *const u16,
+        limit: u16,
+    ) -> Answer;
+    fn windrow_gateway_trigger(s: State, archive: *const u8, len: usize, file: u32, point: u16) -> Answer;
+    fn windrow_gateway_alarm(
+        s: State,
+        archive: *const u8,
+        len: usize,
+        slot: u32,
+        point: u16,
+        kind: u8,
+        transducer: u16,
+    ) -> Answer;
+}
+
+pub fn fresh(day_first: bool, unit: u8, archive: &mut [u8]) -> Answer {
+    unsafe { windrow_gateway_fresh(day_first, unit, archive.as_mut_ptr(), archive.len()) }
+}
+
+// The calls that only look at the archive's length are lent it to write as well, so that a byte written would be seen.
+
+pub fn unlock(s: State, archive: &mut [u8]) -> Answer {
+    unsafe { windrow_gateway_unlock(s, archive.as_mut_ptr(), archive.len()) }
+}
+
+pub fn lock(s: State, archive: &mut [u8]) -> Answer {
+    unsafe { windrow_gateway_lock(s, archive.as_mut_ptr(), archive.len()) }
+}
+
+pub fn stop(s: State, archive: &mut [u8]) -> Answer {
+    unsafe { windrow_gateway_stop(s, archive.as_mut_ptr(), archive.len()) }
+}
+
+pub fn start(s: State, archive: &mut [u8]) -> Answer {
+    unsafe { windrow_gateway_start(s, archive.as_mut_ptr(), archive.len()) }
+}
+
+pub fn define(s: State, archive: &mut [u8], file: u32, groups: &[u16; 32], limit: u16) -> Answer {
+    unsafe { windrow_gateway_define(s, archive.as_mut_ptr(), archive.len(), file, groups.as_ptr(), limit) }
+}
+
+pub fn trigger(s: State, archive: &mut [u8], file: u32, point: u16) -> Answer {
+    unsafe { windrow_gateway_trigger(s, archive.as_mut_ptr(), archive.len(), file, point) }
+}
+
+pub fn alarm(s: State, archive: &mut [u8], slot: u32, point: u16, kind: u8, transducer: u16) -> Answer {
+    unsafe { windrow_gateway_alarm(s, archive.as_mut_ptr(), archive.len(), slot, point, kind, transducer) }
+}

@@ -1,0 +1,337 @@
+//! States: the library's as the model's plain fields and back, random ones that are not Foreign, and damaged ones.
+
+use model::foreign::{definitions, RawState};
+use model::layout::{layout_bytes, most_records, record_bytes, Definition, Definitions, USER_FILES};
+use model::points::{groups_from_first_place, judge_definition};
+use reader::random::{groups, Random};
+
+use crate::ffi::{Files, Site, Slot, State};
+
+/// The state of zeros that a refused Fresh hands back.
+pub const ZEROS: State = State {
+    site: Site { archive: 0, unit: 0, dayfirst: false },
+    running: false,
+    unlocked: false,
+    pending: false,
+    scanned: false,
+    draft: Files { groups: [0; 320], limits: [0; 10] },
+    layout: Files { groups: [0; 320], limits: [0; 10] },
+    triggers: [0; 10],
+    slots: [Slot { point: 0, transducer: 0, kind: 0 }; 32],
+    booleans: [0; 16],
+    pointers: [0; 11],
+    requested: [0; 11],
+};
+
+pub fn raw_of(s: &State) -> RawState {
+    RawState {
+        day_first: s.site.dayfirst,
+        unit: s.site.unit,
+        archive_len: s.site.archive,
+        running: s.running,
+        unlocked: s.unlocked,
+        pending: s.pending,
+        draft_groups: s.draft.groups,
+        draft_n: s.draft.limits,
+        groups: s.layout.groups,
+        n: s.layout.limits,
+        triggers: s.triggers,
+        slot_point: s.slots.map(|slot| slot.point),
+        slot_kind: s.slots.map(|slot| slot.kind),
+        slot_float: s.slots.map(|slot| slot.transducer),
+        pointers: s.pointers,
+        requested: s.requested,
+    }
+}
+
+/// The Booleans of the latest accepted scan, if any.
+pub fn remembered_of(s: &State) -> Option<[u8; 16]> {
+    s.scanned.then_some(s.booleans)
+}
+
+/// The plain fields as the library's state. The bytes of `booleans` mean nothing before a scan and stay as given.
+pub fn state_of(raw: &RawState, remembered: Option<[u8; 16]>, given: &State) -> State {
+    let mut slots = ZEROS.slots;
+    for (i, slot) in slots.iter_mut().enumerate() {
+        *slot = Slot { point: raw.slot_point[i], transducer: raw.slot_float[i], kind: raw.slot_kind[i] };
+    }
+    State {
+        site: Site { archive: raw.archive_len, unit: raw.unit, dayfirst: raw.day_first },
+        running: raw.running,
+        unlocked: raw.unlocked,
+        pending: raw.pending,
+        scanned: remembered.is_some(),
+        draft: Files { groups: raw.draft_groups, limits: raw.draft_n },
+        layout: Files { groups: raw.groups, limits: raw.n },
+        triggers: raw.triggers,
+        slots,
+        booleans: remembered.unwrap_or(given.booleans),
+        pointers: raw.pointers,
+        requested: raw.requested,
+    }
+}
+
+/// The fields in which two states differ, with the wanted and the given content.
+pub fn differences(wanted: &State, got: &State) -> String {
+    let mut text = String::new();
+    macro_rules! field {
+        ($($name:ident).+) => {
+            if wanted.$($name).+ != got.$($name).+ {
+                text += &format!("\n  {}: wanted {:?}, got {:?}", stringify!($($name).+), wanted.$($name).+, got.$($name).+);
+            }
+        };
+    }
+    field!(site);
+    field!(running);
+    field!(unlocked);
+    field!(pending);
+    field!(scanned);
+    field!(draft.groups);
+    field!(draft.limits);
+    field!(layout.groups);
+    field!(layout.limits);
+    field!(triggers);
+    field!(slots);
+    field!(booleans);
+    field!(pointers);
+    field!(requested);
+    text
+}
+
+/// The draft, or the layout, as ten definitions.
+pub fn definitions_of(files: &Files) -> Definitions {
+    definitions(&files.groups, &files.limits)
+}
+
+fn set_groups(files: &mut Files, file: usize, numbers: &[u16; 32]) {
+    files.groups[32 * file..32 * file + 32].copy_from_slice(numbers);
+}
+
+/// Mostly 11,000 to 13,000 bytes, now and then a large one.
+pub fn archive_length(random: &mut Random) -> usize {
+    match random.below(40) {
+        0 => 11_000,
+        1 => 1_048_576,
+        2 => 11_000 + random.below(1_037_577) as usize,
+        _ => 11_000 + random.below(2_001) as usize,
+    }
+}
+
+pub fn boolean_or_none(random: &mut Random) -> u16 {
+    match random.below(6) {
+        0 => 0,
+        1 => 1801,
+        2 => 1928,
+        _ => 1801 + random.below(128) as u16,
+    }
+}
+
+pub fn float_or_none(random: &mut Random) -> u16 {
+    match random.below(6) {
+        0 => 0,
+        1 => 7101,
+        2 => 7228,
+        _ => 7101 + random.below(128) as u16,
+    }
+}
+
+/// A point that is in another row, or in none; often one past an end.
+pub fn other_point(random: &mut Random, not: impl Fn(u16) -> bool) -> u16 {
+    const EDGES: [u16; 14] = [1, 1800, 1801, 1929, 3001, 4001, 5101, 7100, 7101, 7229, 14001, 14017, 65535, 257];
+    loop {
+        let point = if random.chance(3) { random.next() as u16 } else { EDGES[random.below(14) as usize] };
+        if not(point) {
+            return point;
+        }
+    }
+}
+
+pub fn no_boolean(random: &mut Random) -> u16 {
+    other_point(random, |point| point != 0 && !(1801..=1928).contains(&point))
+}
+
+pub fn no_float(random: &mut Random) -> u16 {
+    other_point(random, |point| point != 0 && !(7101..=7228).contains(&point))
+}
+
+/// Good groups: random ones, the longest record, or none at all.
+fn good_groups(random: &mut Random) -> [u16; 32] {
+    match random.below(8) {
+        0 => [0; 32],
+        1 => groups_from_first_place(&[(7101, 61)]),
+        _ => loop {
+            let numbers = groups(random);
+            if judge_definition(&numbers).is_ok() {
+                return numbers;
+            }
+        },
+    }
+}
+
+/// Groups that are mostly good, and the edges of the marked cases.
+pub fn any_groups(random: &mut Random) -> [u16; 32] {
+    match random.below(10) {
+        0 => groups_from_first_place(&[(7101, 61), (3001, 1)]),
+        1 => groups_from_first_place(&[(7228, 2)]),
+        2 => with_a_bad_group(random),
+        3 => groups_from_first_place(&[(7228, 1)]),
+        4 => [0; 32],
+        _ => groups(random),
+    }
+}
+
+/// Good groups with one or two bad ones among them.
+fn with_a_bad_group(random: &mut Random) -> [u16; 32] {
+    const BAD: [(u16, u16); 12] = [
+        (0, 1),
+        (1801, 0),
+        (1801, 129),
+        (1928, 2),
+        (1800, 2),
+        (3001, 65),
+        (4032, 2),
+        (5100, 1),
+        (7101, 129),
+        (14016, 2),
+        (65535, 65535),
+        (3001, 65535),
+    ];
+    let mut numbers = good_groups(random);
+    for _ in 0..1 + random.below(2) {
+        let place = random.below(16) as usize;
+        let (first, points) = BAD[random.below(12) as usize];
+        numbers[2 * place] = first;
+        numbers[2 * place + 1] = points;
+    }
+    numbers
+}
+
+fn too_long(random: &mut Random) -> [u16; 32] {
+    match random.below(3) {
+        0 => groups_from_first_place(&[(7101, 61), (1801, 1)]),
+        1 => groups_from_first_place(&[(14001, 15), (4001, 1)]),
+        _ => groups_from_first_place(&[(7101, 128), (5101, 64)]),
+    }
+}
+
+/// A number of records that fits what is left of the archive, exactly or with some to spare, or one record too many.
+pub fn limit_near(random: &mut Random, files: &Definitions, file: usize, numbers: &[u16; 32], archive: usize) -> u16 {
+    let mut others = *files;
+    others[file] = Definition::IDLE;
+    others[file].groups = *numbers;
+    let left = (archive as u64).saturating_sub(layout_bytes(&others));
+    let most = left / record_bytes(&others, file + 1).max(6) as u64;
+    let limit = match random.below(12) {
+        0..=3 => random.below(3),
+        4..=6 => random.below(most + 1),
+        7..=8 => most,
+        9 => most + 1,
+        10 => 0,
+        _ => random.below(65_536),
+    };
+    limit.min(65_535) as u16
+}
+
+/// A state that is not Foreign, though no list of calls may leave it: every field as free as row 2 lets it be.
+pub fn standing(random: &mut Random) -> State {
+    let archive = archive_length(random);
+    let mut s = ZEROS;
+    s.site = Site { archive: archive as u32, unit: 1 + random.below(247) as u8, dayfirst: random.chance(2) };
+    match random.below(3) {
+        0 => s.running = true,
+        1 => s.unlocked = true,
+        _ => {}
+    }
+    s.pending = random.chance(2);
+    s.scanned = random.chance(2);
+    s.booleans.copy_from_slice(&random.bytes(16));
+    for file in 0..USER_FILES {
+        if random.chance(2) {
+            let numbers = good_groups(random);
+            set_groups(&mut s.layout, file, &numbers);
+            let laid_out = definitions_of(&s.layout);
+            let limit = limit_near(random, &laid_out, file, &numbers, archive);
+            s.layout.limits[file] = limit;
+            if layout_bytes(&definitions_of(&s.layout)) > archive as u64 {
+                s.layout.limits[file] = 0;
+            }
+        }
+        if random.chance(3) {
+            set_groups(&mut s.draft, file, &good_groups(random));
+            s.draft.limits[file] = if random.chance(8) { random.next() as u16 } else { random.below(3) as u16 };
+        }
+        s.triggers[file] = boolean_or_none(random);
+    }
+    if random.chance(3) {
+        s.draft = s.layout;
+    }
+    for slot in &mut s.slots {
+        *slot = Slot { point: boolean_or_none(random), transducer: float_or_none(random), kind: random.below(4) as u8 };
+    }
+    let laid_out = definitions_of(&s.layout);
+    for file in 0..11 {
+        let n = u64::from(most_records(&laid_out, file + 1));
+        s.pointers[file] = if random.chance(4) { n as u16 } else { random.below(n + 1) as u16 };
+        s.requested[file] = if random.chance(4) { n as u16 } else { random.below(n + 1) as u16 };
+    }
+    s
+}
+
+/// The clauses of Foreign, each with a name for the tally.
+pub const CLAUSES: [&str; 15] = [
+    "running and unlocked",
+    "draft: bad group",
+    "draft: long record",
+    "layout: bad group",
+    "layout: long record",
+    "trigger",
+    "slot point",
+    "slot type",
+    "slot transducer",
+    "layout over memory by its n",
+    "layout over memory by its length",
+    "pointer over n",
+    "requested over n",
+    "unit",
+    "layout one record more",
+];
+
+/// Damages one thing of a state, by the clause with that index. Some are on the allowed side of the edge: the model tells.
+pub fn damage(random: &mut Random, s: &mut State, clause: usize) {
+    let file = random.below(10) as usize;
+    let slot = random.below(32) as usize;
+    let n = |s: &State, file: usize| most_records(&definitions_of(&s.layout), file + 1);
+    match clause {
+        0 => (s.running, s.unlocked) = (true, true),
+        1 => set_groups(&mut s.draft, file, &with_a_bad_group(random)),
+        2 => set_groups(&mut s.draft, file, &too_long(random)),
+        3 => set_groups(&mut s.layout, file, &with_a_bad_group(random)),
+        4 => set_groups(&mut s.layout, file, &too_long(random)),
+        5 => s.triggers[file] = no_boolean(random),
+        6 => s.slots[slot].point = no_boolean(random),
+        7 => s.slots[slot].kind = [4, 5, 128, 255][random.below(4) as usize],
+        8 => s.slots[slot].transducer = no_float(random),
+        9 => s.layout.limits[file] = s.layout.limits[file].max(65_535 - random.below(3) as u16),
+        10 => {
+            let bytes = layout_bytes(&definitions_of(&s.layout)) as u32;
+            s.site.archive = match random.below(4) {
+                0 => bytes,
+                1 => random.below(u64::from(bytes)) as u32,
+                _ => bytes - 1,
+            };
+        }
+        11 | 12 => {
+            let file = if random.chance(4) { 10 } else { file };
+            let over = n(s, file).saturating_add(1 + if random.chance(3) { random.below(65_535) as u16 } else { 0 });
+            let numbers = if clause == 11 { &mut s.pointers } else { &mut s.requested };
+            numbers[file] = over;
+        }
+        13 => s.site.unit = [0, 248, 249, 255, 247, 1][random.below(6) as usize],
+        _ => {
+            let laid_out = definitions_of(&s.layout);
+            let left = u64::from(s.site.archive).saturating_sub(layout_bytes(&laid_out));
+            let more = left / record_bytes(&laid_out, file + 1).max(6) as u64 + u64::from(!random.chance(5));
+            s.layout.limits[file] = (u64::from(s.layout.limits[file]) + more).min(65_535) as u16;
+        }
+    }
+}
