@@ -34,7 +34,7 @@ freshState dayFirst unit archive = record {
   requested = replicate 11 0;
 }
 
--- what a refused Fresh hands back: its unit is Foreign (2), and its archive length of 0 is no lent memory's (1)
+-- what a refused Fresh hands back: its unit is Foreign (2), and over memory of any length but 0 the lower Memory (1) is answered
 abbrev pub zeroState : State
 zeroState = freshState false 0 0
 
