@@ -3,10 +3,14 @@
 --     tabulate-ext                      two rules that agree below n give the same list
 --     tabulate-part                     a stretch of it, which may run past its end, is one of a shifted rule
 --     part-tabulate, map-tabulate       a part of a list, and a function at each place, as such a rule
+--     copied                            a list copied place by place
 --     filled-none, -next, -all          a loop that stores place after place by a rule: before, after one more turn, at the end
 --     sets-whole                        stores at every place of a list
 --     part-back, take-pasted, length-pasted    a part that was lent and has come back; what stands before its end; the length
 --     part-part                         a part of a part
+--     part-before                       a part that ends at or before the place a of a pasted list is as it was
+--     part-behind                       a part that starts at or behind the end of what was pasted is as it was
+--     part-here                         the part that was pasted reads as it was written
 --     rest-lent, rest-back              the same for all of a list behind its first k
 --     zero-at                           a list of zeros has 0 at every place
 use mathlib.Core.Path.{_≡_, refl, sym, ap, _∙_, subst}
@@ -14,13 +18,14 @@ use mathlib.Core.List.{List, [], _∷_, _++_, map, append-nil, append-assoc}
 use mathlib.Core.Bool.{Bool, true, false, _&&_}
 use mathlib.Core.Logic.{⊎-elim}
 use Prim.Native.Nat.{ℕ, zero, suc, _+_, _-_, _≤_, _<_, min}
-use native.Mathlib.Nat.{not-suc-le-zero, eq-or-lt-of-le, le-of-suc-le-suc, add-assoc}
+use native.Mathlib.Nat.{not-suc-le-zero, eq-or-lt-of-le, le-of-suc-le-suc, add-assoc, zero-add}
 use native.Mathlib.Numerals.{add-one}
 use native.Mathlib.Omega.{arith}
 use borrow.Author.Tests.{eqb-true}
 use lib.Dec.{eqb}
-use lib.ListN.{length, getD, set, take, drop, length-append, length-take, length-drop, List·getD-append, drop-of-length-le}
+use lib.ListN.{length, getD, set, take, drop, length-append, length-take, length-drop, List·getD-append, drop-of-length-le, take-append-drop}
 use lib.Seq.{sets, sets-eq, ext-getD, getD-take, getD-drop, getD-append-seam, drop-cons, drop-drop, set-at, take-at, drop-at, take-all}
+use lib.Seq.{length-take-le, take-append-le, drop-append-le, take-append-seam}
 use Rattle.basics.specs.Lists.{tabulate, allZero, pasted}
 use Rattle.basics.proofs.Tests.{and-left, and-right}
 
@@ -68,6 +73,12 @@ part-tabulate xs a k fits =
     (λ i l.
     let h : i < k = rw long at l in
     getD-take k (drop a xs) i 0 h ∙ getD-drop a xs i 0 ∙ sym (getD-tabulate k (λ j. getD xs (a + j) 0) i 0 h))
+
+-- a list copied place by place
+pub copied : (l : List ℕ) → tabulate (length l) (λ k. getD l k 0) ≡ l
+copied l =
+    tabulate-ext (length l) (λ k. getD l k 0) (λ k. getD l (0 + k) 0) (λ i below. ap (λ j. getD l j 0) (sym (zero-add i)))
+    ∙ sym (part-tabulate l 0 (length l) (omega arith)) ∙ take-all (length l) l (omega arith)
 
 pub map-tabulate : (g f : ℕ → ℕ) (n : ℕ) → map g (tabulate n f) ≡ tabulate n (λ i. g (f i))
 unfolding tabulate
@@ -137,6 +148,31 @@ part-part l a n b k outer inner =
     ∙ tabulate-ext k _ _ (λ i h.
     getD-take n (drop a l) (b + i) 0 (omega arith) ∙ getD-drop a l (b + i) 0 ∙ ap (λ j. getD l j 0) (sym (add-assoc a b i)))
     ∙ sym (part-tabulate l (a + b) k (omega arith))
+
+-- a part of a list's front
+front : (p q : List ℕ) (b n : ℕ) → b + n ≤ length p → take n (drop b (p ++ q)) ≡ take n (drop b p)
+front p q b n inside =
+    ap (take n) (drop-append-le b p q (omega arith)) ∙ take-append-le n (drop b p) q (simp length-drop (omega arith))
+
+-- parts of a list over which ys was pasted from place a on: one before them, one behind them, and ys
+pub part-before : (xs ys : List ℕ) (a b n : ℕ) → a ≤ length xs → b + n ≤ a → take n (drop b (pasted xs a ys)) ≡ take n (drop b xs)
+part-before xs ys a b n fits early =
+    let long : b + n ≤ length (take a xs) = simp length-take (omega arith) in
+    front (take a xs) (ys ++ drop (a + length ys) xs) b n long
+    ∙ sym (front (take a xs) (drop a xs) b n long) ∙ ap (λ l. take n (drop b l)) (take-append-drop a xs)
+
+pub part-behind : (xs ys : List ℕ) (a b n : ℕ) → a ≤ length xs → a + length ys ≤ b → take n (drop b (pasted xs a ys)) ≡ take n (drop b xs)
+part-behind xs ys a b n fits late =
+    let end = a + length ys in
+    let long : length (take a xs ++ ys) ≡ a + length ys = simp (length-append, length-take) (omega arith) in
+    let rest : drop end (pasted xs a ys) ≡ drop end xs = rw (← append-assoc) (drop-at (take a xs ++ ys) (drop end xs) end long) in
+    let there : a + length ys + (b - (a + length ys)) ≡ b = omega arith in
+    rw (← there) (ap (take n) (sym (drop-drop (b - end) end (pasted xs a ys)) ∙ ap (drop (b - end)) rest ∙ drop-drop (b - end) end xs))
+
+pub part-here : (xs ys : List ℕ) (a : ℕ) → a ≤ length xs → take (length ys) (drop a (pasted xs a ys)) ≡ ys
+part-here xs ys a fits =
+    ap (take (length ys)) (drop-at (take a xs) (ys ++ drop (a + length ys) xs) a (length-take-le a xs fits))
+    ∙ take-append-seam ys (drop (a + length ys) xs)
 
 -- a list of no length
 pub length-zero : (xs : List ℕ) → length xs ≡ 0 → xs ≡ []

@@ -1,11 +1,11 @@
 -- Document 01, "Marked cases and known blunders": the marked cases of the crates that exist so far, one list.
--- proofs/Check.antt computes them all at once. Those of rings and of the scan join with those calls.
+-- proofs/Check.antt computes them all at once.
 use mathlib.Core.List.{List, [], _∷_, _++_}
 use mathlib.Core.Bool.{Bool, true, false, _&&_}
-use Prim.Native.Nat.{ℕ, suc, _+_, _-_}
-use Rattle.basics.specs.Lists.{same}
+use Prim.Native.Nat.{ℕ, zero, suc, _+_, _-_}
+use Rattle.basics.specs.Lists.{tabulate, same}
 use lib.IntN.{ℤ, pos, negsuc}
-use lib.ListN.{length, replicate}
+use lib.ListN.{length, getD, take, replicate}
 use Rattle.points.specs.declared.table.Found.{Found}
 use Rattle.points.specs.declared.table.Found.the-variants.{In, Nowhere}
 use Rattle.points.specs.Table.{tableBytes, rowOf}
@@ -15,7 +15,10 @@ use Rattle.records.specs.declared.stamp.Stamp.{Stamp}
 use Rattle.records.specs.Stamp.{stampBytes}
 use Rattle.records.specs.Capture.{captured}
 use Rattle.records.specs.Value.{PointValue, flag, int16, int32, float, text, valueInTable}
-use Rattle.gateway.specs.Calls.{freshAnswer, unlockAnswer, defineAnswer, startAnswer}
+use Rattle.archive.specs.Ring.{ring, capturedAll, pointerAfter, recordAfter}
+use Rattle.gateway.specs.declared.state.State.{State}
+use Rattle.gateway.specs.Calls.{freshAnswer, unlockAnswer, triggerAnswer, defineAnswer, startAnswer}
+use Rattle.gateway.specs.Scan.{scanAnswer, scanMemory}
 
 -- what the definitions give, and what the paper says
 pub record Case : Type 0 where
@@ -75,6 +78,44 @@ oneBareStamp size =
     let defined = defineAnswer unlocked size 1 (groups []) 1 .state in
     startAnswer defined size .number ∷ []
 
+-- captures 1 to c of one byte each, its own number, the newest first
+abbrev numbered : ℕ → List (List ℕ)
+numbered zero = []
+numbered (suc c) = (suc c ∷ []) ∷ numbered c
+
+-- pointer and records of an empty file of n such records after c captures, one by one; and by demand 3's formulas
+abbrev captures : ℕ → ℕ → List ℕ
+captures n c = let after = capturedAll 0 1 n (ring 0 (replicate n 0)) (numbered c) in after .pointer ∷ after .memory
+
+abbrev formulas : ℕ → ℕ → List ℕ
+formulas n c = pointerAfter n c ∷ tabulate n (λ i. getD (recordAfter n 1 (numbered c) (i + 1)) 0 0)
+
+-- file 1 of one bare stamp with trigger 1801, started
+abbrev watching : State
+watching =
+    let fresh = freshAnswer false 1 11006 .state in
+    let triggered = triggerAnswer fresh 11006 1 1801 .state in
+    let unlocked = unlockAnswer triggered 11006 .state in
+    let defined = defineAnswer unlocked 11006 1 (groups []) 1 .state in
+    startAnswer defined 11006 .state
+
+abbrev nothing : List ℕ
+nothing = replicate 11006 0
+
+-- two scans one after the other: the number of each, then file 1's pointer and its record
+abbrev twoScans : List ℕ → List ℕ → List ℕ
+twoScans first second =
+    let one = scanAnswer watching nothing first august in
+    let left = scanMemory watching nothing first august in
+    let two = scanAnswer (one .state) left second august in
+    one .number ∷ two .number ∷ getD (two .state .pointers) 0 0 ∷ take 6 (scanMemory (one .state) left second august)
+
+abbrev flagOff : List ℕ
+flagOff = tableWith 0 []
+
+abbrev flagOn : List ℕ
+flagOn = tableWith 0 (0x01 ∷ [])
+
 -- ---- the cases
 unfoldable pub marked : List Case
 marked =
@@ -98,6 +139,18 @@ marked =
     -- Memory 11,006: one file of one bare stamp starts; 11,005: 11
     ∷ oneBareStamp 11006 gives (0 ∷ [])
     ∷ oneBareStamp 11005 gives (11 ∷ [])
+    -- n = 4, c = 5: pointer 1, record 1 is capture 5, record 2 capture 2. c = 4: pointer 4
+    ∷ captures 4 5 gives (1 ∷ 5 ∷ 2 ∷ 3 ∷ 4 ∷ [])
+    ∷ formulas 4 5 gives (1 ∷ 5 ∷ 2 ∷ 3 ∷ 4 ∷ [])
+    ∷ captures 4 4 gives (4 ∷ 1 ∷ 2 ∷ 3 ∷ 4 ∷ [])
+    ∷ formulas 4 4 gives (4 ∷ 1 ∷ 2 ∷ 3 ∷ 4 ∷ [])
+    -- n = 1, c = 7: pointer 1
+    ∷ captures 1 7 gives (1 ∷ 7 ∷ [])
+    ∷ formulas 1 7 gives (1 ∷ 7 ∷ [])
+    -- a trigger on in the first scan: no record, nor while it stays on; one that rises in the second has one
+    ∷ twoScans flagOn flagOff gives (0 ∷ 0 ∷ 0 ∷ 0 ∷ 0 ∷ 0 ∷ 0 ∷ 0 ∷ 0 ∷ [])
+    ∷ twoScans flagOn flagOn gives (0 ∷ 0 ∷ 0 ∷ 0 ∷ 0 ∷ 0 ∷ 0 ∷ 0 ∷ 0 ∷ [])
+    ∷ twoScans flagOff flagOn gives (0 ∷ 0 ∷ 1 ∷ 0x08 ∷ 0x1D ∷ 0x07 ∷ 0x0B ∷ 0x24 ∷ 0x34 ∷ [])
     ∷ []
 
 -- ---- the check

@@ -1,7 +1,6 @@
 -- Laws of the calls' answers. Assumes nothing.
 --     refused-first    the state's own number, Memory (1) or Foreign (2), is answered before what the call itself would answer
 --     within-inside    what a range test that holds gives
---     drafts-good      a state that is not refused has good drafts
 --     fresh-size       the length that Fresh takes has 32 bits
 --     own-next         where neither applies, the call's own answer stands
 use mathlib.Core.Path.{_≡_, refl, sym, _∙_}
@@ -14,7 +13,7 @@ use Rattle.basics.specs.Numbers.{within}
 use Rattle.basics.proofs.Tests.{and-left, and-right}
 use Rattle.gateway.specs.declared.state.State.{State}
 use Rattle.gateway.specs.declared.calls.Answer.{Answer}
-use Rattle.gateway.specs.Layout.{goodFiles}
+use Rattle.archive.specs.Layout.{goodFiles}
 use Rattle.gateway.specs.Validity.{goodTriggers, goodSlots, settingsValid, archiveValid, valid}
 use Rattle.gateway.specs.Calls.{stateNumber, told, settled, freshNumber}
 
@@ -26,18 +25,6 @@ own-next s size n own is none = simp (sym is ∙ none)
 
 pub within-inside : (lo hi x : ℕ) → within lo hi x ≡ true → (lo ≤ x) × (x ≤ hi)
 within-inside lo hi x holds = (leb-true lo x (and-left (leb lo x) (leb x hi) holds), leb-true x hi (and-right (leb lo x) (leb x hi) holds))
-
-pub drafts-good : (s : State) (size n : ℕ) → n ≡ stateNumber s size → n ≡ 0 → goodFiles (s .draft .groups) ≡ true
-unfolding stateNumber valid settingsValid
-drafts-good s size n is none = go (eqb size (s .site .archive)) (valid s) refl (sym is ∙ none)
-  where
-    parts : valid s ≡ true → goodFiles (s .draft .groups) ≡ true
-    parts v = and-left (goodFiles (s .draft .groups)) (goodTriggers (s .triggers) && goodSlots (s .slots)) (and-left (settingsValid s) (archiveValid (s .layout) (s .site .archive) (s .pointers) (s .requested) && within 1 247 (s .site .unit)) (and-right (not (s .running && s .unlocked)) (settingsValid s && (archiveValid (s .layout) (s .site .archive) (s .pointers) (s .requested) && within 1 247 (s .site .unit))) v))
-
-    go : (a b : Bool) → valid s ≡ b → _≡_ {A = ℕ} (cond (not a) 1 (cond (not b) 2 0)) 0 → goodFiles (s .draft .groups) ≡ true
-    go false b v q = absurd (omega (arith, q))
-    go true false v q = absurd (omega (arith, q))
-    go true true v q = parts v
 
 pub fresh-size : (unit size n : ℕ) → n ≡ freshNumber unit size → n ≡ 0 → size ≤ 1048576
 unfolding freshNumber

@@ -10,12 +10,13 @@ use Prim.Native.Nat.{ℕ, _-_}
 use lib.Dec.{eqb}
 use lib.ListN.{length, replicate, set}
 use borrow.Author.Tests.{eqb-true, not-false}
+use Rattle.points.specs.Table.{booleanOrNone}
 use Rattle.points.specs.Groups.{judgedCard}
 use Rattle.basics.specs.Numbers.{within}
 use Rattle.gateway.specs.declared.state.State.{State}
 use Rattle.gateway.specs.declared.calls.Answer.{Answer}
 use Rattle.gateway.specs.State.{withFlags, withDraft, withTriggers, withSlots, laidOut}
-use Rattle.gateway.specs.Validity.{booleanOrNone, goodSlot}
+use Rattle.gateway.specs.Validity.{goodSlot}
 use Rattle.gateway.specs.Calls.{stateNumber, told, done, settled, unlockAnswer, lockAnswer, stopAnswer, triggerAnswer, alarmAnswer, drafted, definitionAnswer, defineAnswer, draftFits, startAnswer, startMemory}
 
 by-cond : (Q : Answer → Type 0) (b : Bool) (x y : Answer) → (b ≡ true → Q x) → (b ≡ false → Q y) → Q (cond b x y)

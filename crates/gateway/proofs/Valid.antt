@@ -1,5 +1,4 @@
 -- A call on a valid state leaves a valid state. Assumes nothing.
---     valid-split, valid-join     a valid state, clause by clause of row 2
 --     unlock-valid, lock-valid, ..     the calls
 --     fresh-valid     what Fresh leaves
 use mathlib.Core.Path.{_≡_, refl, ap, _∙_}
@@ -13,61 +12,20 @@ use lib.ListN.{getD, set, replicate, getD-replicate}
 use Rattle.basics.specs.Numbers.{within}
 use Rattle.basics.proofs.Tests.{and-left, and-right}
 use Rattle.gateway.specs.declared.state.State.{State}
-use Rattle.gateway.specs.declared.state.Slot.{Slot}
+use Rattle.archive.specs.declared.alarms.Slot.{Slot}
 use Rattle.gateway.specs.declared.calls.Answer.{Answer}
-use Rattle.gateway.specs.Layout.{every, isGood, goodFiles, fileSize, base, layoutSize, hasRoom}
-use Rattle.gateway.specs.State.{offSlot, freshState, withFlags, withDraft, withTriggers, withSlots, laidOut}
-use Rattle.gateway.specs.Validity.{booleanOrNone, goodTriggers, goodSlot, goodSlotAt, goodSlots, withinFiles, withinLimits, archiveValid, settingsValid, valid}
+use Rattle.archive.specs.Layout.{every, isGood, goodFiles, fileSize, base, layoutSize, hasRoom}
+use Rattle.archive.specs.Alarms.{offSlot}
+use Rattle.gateway.specs.State.{freshState, withFlags, withDraft, withTriggers, withSlots, laidOut}
+use Rattle.gateway.specs.Validity.{goodTriggers, goodSlot, goodSlotAt, goodSlots, withinFiles, withinLimits, archiveValid, settingsValid, valid}
 use Rattle.gateway.specs.Calls.{told, unlockAnswer, lockAnswer, stopAnswer, triggerAnswer, alarmAnswer, drafted, defineAnswer, freshNumber, startAnswer}
-use Rattle.points.specs.Table.{floatOrNone}
+use Rattle.points.specs.Table.{floatOrNone, booleanOrNone}
 use Rattle.points.specs.Groups.{judgedCard, firstBad, recordSize, groupsSize, groupOf, unused}
 use Rattle.gateway.proofs.Answers.{within-inside}
+use Rattle.gateway.proofs.Clauses.{valid-split, valid-join}
 use Rattle.gateway.proofs.Drafts.{drafts-stay-good}
-use Rattle.gateway.proofs.Laws.{every-at, every-all, set-holds}
+use Rattle.archive.proofs.Laws.{every-at, every-all, set-holds}
 use Rattle.gateway.proofs.Settings.{by-unlock, by-lock, by-stop, by-trigger, by-alarm, by-define, by-start}
-
--- ---- clause by clause
-pub record Clauses (s : State) : Type 0 where
-  pub flags : not (s .running && s .unlocked) ≡ true
-  pub drafts : goodFiles (s .draft .groups) ≡ true
-  pub triggers : goodTriggers (s .triggers) ≡ true
-  pub slots : goodSlots (s .slots) ≡ true
-  pub laid : goodFiles (s .layout .groups) ≡ true
-  pub room : hasRoom (s .layout .groups) (s .layout .limits) (s .site .archive) ≡ true
-  pub pointers : withinLimits (s .pointers) (s .layout .limits) ≡ true
-  pub requested : withinLimits (s .requested) (s .layout .limits) ≡ true
-  pub unit : within 1 247 (s .site .unit) ≡ true
-
-both : (a b : Bool) → (a && b) ≡ true → (a ≡ true) × (b ≡ true)
-both a b h = (and-left a b h, and-right a b h)
-
-pub valid-split : (s : State) → valid s ≡ true → Clauses s
-unfolding valid settingsValid archiveValid
-valid-split s v =
-    let one = both _ _ v in
-    let two = both (settingsValid s) _ (one .1) in
-    let three = both (archiveValid (s .layout) (s .site .archive) (s .pointers) (s .requested)) _ (two .1) in
-    let drafts = both (goodFiles (s .draft .groups)) _ (two .0) in
-    let settings = both (goodTriggers (s .triggers)) (goodSlots (s .slots)) (drafts .1) in
-    let laid = both (goodFiles (s .layout .groups)) _ (three .0) in
-    let room = both (hasRoom (s .layout .groups) (s .layout .limits) (s .site .archive)) _ (laid .1) in
-    let numbers = both (withinLimits (s .pointers) (s .layout .limits)) (withinLimits (s .requested) (s .layout .limits)) (room .1) in
-    record {
-      flags = one .0;
-      drafts = drafts .0;
-      triggers = settings .0;
-      slots = settings .1;
-      laid = laid .0;
-      room = room .0;
-      pointers = numbers .0;
-      requested = numbers .1;
-      unit = three .1;
-    }
-
-pub valid-join : (s : State) → Clauses s → valid s ≡ true
-unfolding valid settingsValid archiveValid
-valid-join s k =
-    simp (k .flags, k .drafts, k .triggers, k .slots, k .laid, k .room, k .pointers, k .requested, k .unit)
 
 -- ---- flags
 flags-valid : (s : State) (running unlocked pending : Bool) → not (running && unlocked) ≡ true → valid s ≡ true →

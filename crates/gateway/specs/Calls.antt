@@ -6,15 +6,16 @@ use mathlib.Core.Bool.{Bool, true, false, cond, not, _&&_}
 use Prim.Native.Nat.{ℕ, _-_, _*_}
 use lib.Dec.{eqb}
 use lib.ListN.{length, set, replicate}
+use Rattle.points.specs.Table.{booleanOrNone}
 use Rattle.basics.specs.Numbers.{within}
 use Rattle.basics.specs.Lists.{pasted}
 use Rattle.points.specs.Groups.{judgedCard}
 use Rattle.gateway.specs.declared.state.Files.{Files}
 use Rattle.gateway.specs.declared.state.State.{State}
 use Rattle.gateway.specs.declared.calls.Answer.{Answer}
-use Rattle.gateway.specs.Layout.{hasRoom}
+use Rattle.archive.specs.Layout.{hasRoom}
 use Rattle.gateway.specs.State.{freshState, zeroState, withFlags, withDraft, withTriggers, withSlots, laidOut}
-use Rattle.gateway.specs.Validity.{valid, booleanOrNone, goodSlot}
+use Rattle.gateway.specs.Validity.{valid, goodSlot}
 
 -- ---- what every call answers
 -- Memory (1): archive length not the state's. Foreign (2). 0 where neither applies

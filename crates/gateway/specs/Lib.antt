@@ -1,4 +1,4 @@
-pub mod Layout
 pub mod State
 pub mod Validity
 pub mod Calls
+pub mod Scan

@@ -5,32 +5,12 @@ use Prim.Native.Nat.{ℕ}
 use lib.Dec.{eqb, leb}
 use lib.ListN.{getD}
 use Rattle.basics.specs.Numbers.{within}
-use Rattle.points.specs.declared.table.Kind.{Kind}
-use Rattle.points.specs.declared.table.Kind.the-variants.{Boolean, Int16, Text8, Int32, Float, Text16}
-use Rattle.points.specs.declared.table.Found.{Found}
-use Rattle.points.specs.declared.table.Found.the-variants.{In, Nowhere}
-use Rattle.points.specs.Table.{rowOf, floatOrNone}
+use Rattle.points.specs.Table.{booleanOrNone, floatOrNone}
 use Rattle.gateway.specs.declared.state.Files.{Files}
-use Rattle.gateway.specs.declared.state.Slot.{Slot}
+use Rattle.archive.specs.declared.alarms.Slot.{Slot}
 use Rattle.gateway.specs.declared.state.State.{State}
-use Rattle.gateway.specs.Layout.{every, goodFiles, hasRoom, alarmDepth}
-use Rattle.gateway.specs.State.{offSlot}
-
-abbrev pub isBoolean : Kind → Bool
-isBoolean Boolean = true
-isBoolean Int16 = false
-isBoolean Text8 = false
-isBoolean Int32 = false
-isBoolean Float = false
-isBoolean Text16 = false
-
-abbrev pub inBooleans : Found → Bool
-inBooleans Nowhere = false
-inBooleans (In r) = isBoolean (r .kind)
-
--- a Boolean point or 0, as a trigger is, and a slot's point
-unfoldable pub booleanOrNone : ℕ → Bool
-booleanOrNone p = eqb p 0 || inBooleans (rowOf p)
+use Rattle.archive.specs.Layout.{every, goodFiles, hasRoom, alarmDepth}
+use Rattle.archive.specs.Alarms.{offSlot}
 
 unfoldable pub goodTriggers : List ℕ → Bool
 goodTriggers ts = every 10 (λ i. booleanOrNone (getD ts i 0))

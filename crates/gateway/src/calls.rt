@@ -6,11 +6,11 @@ ghost use Rattle.basics.specs.Numbers.{within};
 ghost use Prim.Native.Nat.{_<_, _≤_, _-_};
 ghost use Rattle.gateway.specs.State.{withFlags, withTriggers, withSlots};
 ghost use Rattle.gateway.specs.Calls.{stateNumber, told, unlockAnswer, lockAnswer, stopAnswer, triggerAnswer, alarmAnswer};
-use crate::state::Slot;
 use crate::state::State;
 use crate::validity::is_boolean_or_none;
 use crate::validity::is_slot_good;
 use crate::validity::is_valid;
+use archive::alarms::Slot;
 
 #[repr(C)]
 pub struct Answer {

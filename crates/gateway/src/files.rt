@@ -3,7 +3,7 @@ ghost use mathlib.Core.Path.{_≡_};
 ghost use mathlib.Core.Bool.{true, false};
 ghost use Prim.Native.Nat.{_<_, _≤_, _-_};
 ghost use lib.ListN.{length, replicate};
-ghost use Rattle.gateway.specs.Layout.{goodFiles, hasRoom};
+ghost use Rattle.archive.specs.Layout.{goodFiles, hasRoom};
 ghost use Rattle.gateway.specs.State.{idleFiles, freshState, withDraft, laidOut};
 ghost use Rattle.gateway.specs.Calls.{drafted, freshNumber, MadeFresh, definitionAnswer, defineAnswer, Started};
 use crate::calls::Answer;
@@ -11,11 +11,12 @@ use crate::calls::is_one_to;
 use crate::calls::state_number;
 use crate::calls::tell;
 use crate::calls::with_flags;
-use crate::layout::has_room;
 use crate::state::Files;
 use crate::state::Site;
-use crate::state::Slot;
 use crate::state::State;
+use archive::alarms::Slot;
+use archive::layout::has_room;
+use basics::copy_numbers;
 use basics::is_within;
 use points::groups::Judged;
 use points::groups::judge;
@@ -128,17 +129,6 @@ fn with_draft(s: State, draft: Files) -> State
         booleans,
         pointers,
         requested,
-    }
-}
-
-fn copy_numbers(to: &mut [u16], from: &[u16])
-    requires { ⌜ length (now to) ≡ length (now from) ⌝ }
-    ensures { λ r. ⌜ now (to .exit) ≡ now (from .entry) ⌝ }
-{
-    let mut i: usize = 0;
-    while i < to.len() {
-        to[i] = from[i];
-        i += 1;
     }
 }
 

@@ -1,4 +1,5 @@
 // The gateway's state, document 01, "The plain machine". It goes into each call by value and comes back by value.
+use archive::alarms::Slot;
 
 // What Fresh fixes: the archive memory's length, our unit and the date order.
 #[repr(C)]
@@ -15,15 +16,8 @@ pub struct Files {
     pub limits: [u16; 10],
 }
 
-// An alarm slot: a Boolean point (0 is off), the transducer's float point or 0, and a type 0-3.
-#[repr(C)]
-pub struct Slot {
-    pub point: u16,
-    pub transducer: u16,
-    pub kind: u8,
-}
-
-// Pointers and requested numbers are those of files 1 to 11; the alarm file's are the last.
+// `scanned` says that a scan was accepted, and `booleans` are then the latest one's. Pointers and requested numbers are those of
+// files 1 to 11; the alarm file's are the last.
 #[repr(C)]
 pub struct State {
     pub site: Site,

@@ -2,13 +2,14 @@
 ghost use mathlib.Core.Path.{_≡_};
 ghost use mathlib.Core.Bool.{not, _&&_};
 ghost use lib.ListN.{length};
-ghost use Rattle.points.specs.Table.{isFloat, floatOrNone};
-ghost use Rattle.gateway.specs.Validity.{isBoolean, booleanOrNone, goodTriggers, goodSlot, goodSlots, withinFiles, withinLimits, archiveValid, settingsValid, valid};
-use crate::layout::are_good;
-use crate::layout::has_room;
+ghost use Rattle.points.specs.Table.{isFloat, floatOrNone, isBoolean, booleanOrNone};
+ghost use Rattle.gateway.specs.Validity.{goodTriggers, goodSlot, goodSlots, withinFiles, withinLimits, archiveValid, settingsValid, valid};
 use crate::state::Files;
-use crate::state::Slot;
 use crate::state::State;
+use archive::alarms::Slot;
+use archive::layout::ALARM_DEPTH;
+use archive::layout::are_good;
+use archive::layout::has_room;
 use basics::is_within;
 use points::table::Found;
 use points::table::Kind;
@@ -138,7 +139,7 @@ fn are_within_limits(numbers: &[u16], limits: &[u16]) -> bool
     if !are_within(numbers, limits) {
         return false;
     }
-    numbers[10] <= 500
+    numbers[10] <= ALARM_DEPTH
 }
 
 // Whether the laid-out definitions are good, the layout fits the archive, and no pointer or requested number is over its n.

@@ -1,6 +1,7 @@
 -- Laws of the table's lookup and of groups. Assumes nothing.
 --     row-here, row-past    the lookup from row i on, by the test on row i
 --     lookup-sound          what a computed test says of every row holds of the row that the lookup gives
+--     boolean-row, boolean-found, boolean-point    a Boolean point and its row
 --     group-size-small     a group adds at most the live table's bytes
 use mathlib.Core.Path.{_≡_, refl, sym, ap, _∙_, subst}
 use mathlib.Core.List.{List, [], _∷_}
@@ -22,7 +23,7 @@ use Rattle.points.specs.declared.table.Found.{Found}
 use Rattle.points.specs.declared.table.Found.the-variants.{In, Nowhere}
 use Rattle.points.specs.declared.groups.Group.{Group}
 use Rattle.points.specs.declared.groups.Group.the-variants.{Unused, Points, Bad}
-use Rattle.points.specs.Table.{tableBytes, isBits, rows, inRow, rowIn, rowOf, pointsSize, kindSize, isFloat, inFloats, floatOrNone}
+use Rattle.points.specs.Table.{tableBytes, isBits, rows, inRow, rowIn, rowOf, pointsSize, kindSize, booleanRow, booleanPoint, booleanPoints, isBoolean, inBooleans, booleanOrNone, isFloat, inFloats, floatOrNone}
 use Rattle.points.specs.Groups.{unused, endsInRow, pointsFrom, groupOf, groupSize, isBad, firstPointAt, countAt, groupAt, groupsSize, firstBad, recordSize, judgedCard}
 use Rattle.points.specs.Card.{Card, card}
 
@@ -196,6 +197,34 @@ float-size p ok some = go (rowOf p) refl (simp (ne-eqb p 0 some) at ok)
     go (In r) e t =
         let four : r .size ≡ 4 = lookup-size p r e ∙ float (r .kind) t in
         ap (λ g. groupSize g 1) (group-of-one p r e) ∙ simp four
+
+-- ---- Boolean points
+-- a Boolean point is in the row that starts with the table, and is one of its 128
+booleansFirst : Row → Bool
+booleansFirst r = cond (isBoolean (r .kind)) (eqb (r .offset) 0 && leb (r .last + 1) (r .first + booleanPoints)) true
+
+pub boolean-row : (p : ℕ) (r : Row) → booleanOrNone p ≡ true → rowOf p ≡ In r →
+    (r .offset ≡ 0) × (r .first ≤ p) × (p - r .first < booleanPoints)
+unfolding booleanOrNone booleansFirst rowOf rows
+boolean-row p r ok e =
+    let starts = eqb (r .offset) 0 in
+    let ends = leb (r .last + 1) (r .first + booleanPoints) in
+    let seen = lookup-sound p r e in
+    let some : eqb p 0 ≡ false = ne-eqb p 0 (λ z. omega (arith, seen .named, seen .from, z)) in
+    let boolean : isBoolean (r .kind) ≡ true = ap inBooleans (sym e) ∙ (simp some at ok) in
+    let both : (starts && ends) ≡ true = simp boolean at (found-in booleansFirst p r rows refl e .0) in
+    let last : r .last + 1 ≤ r .first + booleanPoints = leb-true (r .last + 1) (r .first + booleanPoints) (and-right starts ends both) in
+    (eqb-true (r .offset) 0 (and-left starts ends both), seen .from, omega (arith, last, seen .from, seen .to))
+
+-- Boolean number i is in it
+pub boolean-found : (i : ℕ) → i < booleanPoints → rowOf (booleanPoint i) ≡ In booleanRow
+unfolding rowOf rowIn rows inRow
+boolean-found i below =
+    simp (le-leb 1801 (booleanPoint i) (omega (arith, below)), le-leb (booleanPoint i) 1928 (omega (arith, below)))
+
+pub boolean-point : (i : ℕ) → i < booleanPoints → booleanOrNone (booleanPoint i) ≡ true
+unfolding booleanOrNone
+boolean-point i below = simp (boolean-found i below, ne-eqb (booleanPoint i) 0 (λ z. omega (arith, z)))
 
 -- the total of the first k places
 pub groups-size-small : (gs : List ℕ) (k : ℕ) → groupsSize gs k ≤ tableBytes * k

@@ -16,9 +16,12 @@ abbrev pub tableBytes : ℕ
 tableBytes = 1424
 
 -- kind, first and last point, bytes a point (0 stands for one bit), from which byte of the table
+abbrev pub booleanRow : Row
+booleanRow = record { kind = Boolean; first = 1801; last = 1928; size = 0; offset = 0 }
+
 unfoldable pub rows : List Row
 rows =
-    record { kind = Boolean; first = 1801; last = 1928; size = 0; offset = 0 }
+    booleanRow
     ∷ record { kind = Int16; first = 3001; last = 3064; size = 2; offset = 16 }
     ∷ record { kind = Text8; first = 4001; last = 4032; size = 8; offset = 144 }
     ∷ record { kind = Int32; first = 5101; last = 5164; size = 4; offset = 400 }
@@ -47,6 +50,16 @@ isBits r = eqb (r .size) 0
 abbrev pub flagAt : List ℕ → ℕ → ℕ → ℕ
 flagAt table offset i = (getD table (offset + i / 8) 0 / 2 ^ (i % 8)) % 2
 
+-- Boolean number i, counted from 0, is point 1801 + i; there are 128, and they fill the table's first 16 bytes
+abbrev pub booleanPoint : ℕ → ℕ
+booleanPoint i = booleanRow .first + i
+
+abbrev pub booleanPoints : ℕ
+booleanPoints = booleanRow .last + 1 - booleanRow .first
+
+abbrev pub booleanBytes : ℕ
+booleanBytes = 16
+
 -- where point p of row r starts in the table
 abbrev pub placeOf : Row → ℕ → ℕ
 placeOf r p = r .offset + (p - r .first) * r .size
@@ -68,6 +81,22 @@ kindSize Text8 = 8
 kindSize Int32 = 4
 kindSize Float = 4
 kindSize Text16 = 16
+
+abbrev pub isBoolean : Kind → Bool
+isBoolean Boolean = true
+isBoolean Int16 = false
+isBoolean Text8 = false
+isBoolean Int32 = false
+isBoolean Float = false
+isBoolean Text16 = false
+
+abbrev pub inBooleans : Found → Bool
+inBooleans Nowhere = false
+inBooleans (In r) = isBoolean (r .kind)
+
+-- a Boolean point or 0, as a trigger is, and a slot's point
+unfoldable pub booleanOrNone : ℕ → Bool
+booleanOrNone p = eqb p 0 || inBooleans (rowOf p)
 
 abbrev pub isFloat : Kind → Bool
 isFloat Boolean = false

@@ -3,7 +3,7 @@
 ghost use mathlib.Core.Path.{_≡_};
 ghost use Prim.Native.Nat.{_<_, _≤_};
 ghost use lib.ListN.{length};
-ghost use Rattle.points.specs.Groups.{unused, endsInRow, groupOf, groupSize, groupAt, isBad, groupsSize, firstBad, judgedCard};
+ghost use Rattle.points.specs.Groups.{unused, endsInRow, groupOf, groupSize, groupAt, isBad, groupsSize, judgedCard};
 ghost use Rattle.points.specs.Card.{cardOf};
 use crate::table::Found;
 use crate::table::Row;
@@ -95,45 +95,34 @@ pub fn groups_size(groups: &[u16], k: usize) -> usize
     total
 }
 
-// Whether the group at place g is against the rule.
-fn bad_at(groups: &[u16], g: usize) -> bool
-    requires { ⌜ (length (now groups) ≡ 32) × (g < 16) ⌝ }
-    ensures { λ r. ⌜ r ≡ isBad (groupAt (now (groups .entry)) g) ⌝ }
+// Whether a group is against the rule.
+fn is_bad(group: Group) -> bool
+    ensures { λ r. ⌜ r ≡ isBad group ⌝ }
 {
-    match group_at(groups, g) {
+    match group {
         Group::Unused => false,
         Group::Bad => true,
         Group::Points(_) => false,
     }
 }
 
-// The place of the first bad group, counted from 1; 0 where there is none.
-fn first_bad(groups: &[u16]) -> u8
-    requires { ⌜ length (now groups) ≡ 32 ⌝ }
-    ensures { λ r. ⌜ r ≡ firstBad (now (groups .entry)) 16 ⌝ }
-{
-    let mut g: usize = 0;
-    while g < 16 {
-        if bad_at(groups, g) {
-            return (g + 1) as u8;
-        }
-        g += 1;
-    }
-    0
-}
-
-// Judges a definition of any length; the lowest number of the card that applies.
+// Judges a definition of any length, in one walk along its places; the lowest number of the card that applies.
 pub fn judge(groups: &[u16]) -> Judged
     ensures { λ r. ⌜ cardOf r ≡ judgedCard (now (groups .entry)) ⌝ }
 {
     if groups.len() != 32 {
         return Judged::BadGroup(0);
     }
-    let bad = first_bad(groups);
-    if 0 < bad {
-        return Judged::BadGroup(bad);
+    let mut size: usize = 6;
+    let mut g: usize = 0;
+    while g < 16 {
+        let group = group_at(groups, g);
+        if is_bad(group) {
+            return Judged::BadGroup((g + 1) as u8);
+        }
+        size += group_size(group, groups[2 * g + 1]);
+        g += 1;
     }
-    let size = 6 + groups_size(groups, 16);
     if 250 < size {
         return Judged::Long;
     }

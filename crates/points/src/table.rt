@@ -26,10 +26,13 @@ pub enum Found {
     Nowhere,
 }
 
+// The point of Boolean number 0.
+pub const FIRST_BOOLEAN: u16 = 1801;
+
 const ROWS: [Row; 6] = [
     Row {
         kind: Kind::Boolean,
-        first: 1801,
+        first: FIRST_BOOLEAN,
         last: 1928,
         size: 0,
         offset: 0,

@@ -1,6 +1,7 @@
 -- Bits and the numbers that they make. Assumes nothing.
 --     bits-of          the m lowest bits of a number make the number below 2 ^ m
 --     from-bit         each bit is read back from the number that they make
+--     low-bit, high-bit    a bit of a number of which m low digits are known
 --     mask-of          one less than a one shifted by m is the mask of m bits
 --     packed-window    a packed byte is the window of up to eight Booleans that starts at it
 --     window-bit       bit j of two joined bytes shifted right is the flag that stands there in the table
@@ -39,7 +40,7 @@ mask-of m h = shl-exact {a = 1} 1 m 16 (lit< tt) (omega arith) ∙ one-mul (2 ^ 
 
 -- bit k of a number of which m low digits are known
 module _ (hi lo k m : ℕ) (digits : lo < 2 ^ m) where
-  low-bit : k < m → (hi * 2 ^ m + lo) / 2 ^ k % 2 ≡ lo / 2 ^ k % 2
+  pub low-bit : k < m → (hi * 2 ^ m + lo) / 2 ^ k % 2 ≡ lo / 2 ^ k % 2
   low-bit h =
       let w = hi * 2 ^ m + lo in
       let all : m - (1 + k) + (1 + k) ≡ m = omega arith in
@@ -47,7 +48,7 @@ module _ (hi lo k m : ℕ) (digits : lo < 2 ^ m) where
       = sym (mod-mod-pow w (m - (1 + k)) (1 + k)) ∙ ap (λ n. w % 2 ^ n % 2 ^ (1 + k)) all ∙ ap (λ x. x % 2 ^ (1 + k)) (low hi m digits) in
       sym (field w 1 k) ∙ ap (λ x. x / 2 ^ k) same ∙ field lo 1 k
 
-  high-bit : m ≤ k → (hi * 2 ^ m + lo) / 2 ^ k % 2 ≡ hi / 2 ^ (k - m) % 2
+  pub high-bit : m ≤ k → (hi * 2 ^ m + lo) / 2 ^ k % 2 ≡ hi / 2 ^ (k - m) % 2
   high-bit h =
       let w = hi * 2 ^ m + lo in
       let all : m + (k - m) ≡ k = omega arith in

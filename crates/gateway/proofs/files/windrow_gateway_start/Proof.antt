@@ -4,7 +4,8 @@ use mathlib.Core.Bool.{true, false}
 use Prim.Native.Nat.{_-_}
 use borrow.Author.Needs.{needs}
 use borrow.Author.Tests.{ne-eqb, not-true, not-false}
-use Rattle.gateway.proofs.Answers.{refused-first, drafts-good, own-next}
+use Rattle.gateway.proofs.Answers.{refused-first, own-next}
+use Rattle.gateway.proofs.Clauses.{valid-split, state-taken}
 use Rattle.gateway.specs.Calls.{startAnswer, startMemory, told}
 use Rattle.gateway.specs.State.{withFlags}
 use Rattle.gateway.proofs.files.windrow_gateway_start.Statement.{statement}
@@ -36,7 +37,9 @@ returns-2 c =
     record { answer = c .tell2 .ensures ∙ ap (λ t. told t 0 0) (c .before .with-flags .ensures) ∙ simp settledNow (own-next _ _ _ _ (c .before .before .before .before .before .state-number .ensures) (c .before .before .before .before .if1 .left)); memory = simp (none, settledNow) }
 
 has-draft-room-requires : tie.Need-has-draft-room-requires
-has-draft-room-requires c κs = drafts-good _ _ _ (c .before .before .before .state-number .ensures) (c .before .before .if1 .left)
+has-draft-room-requires c κs =
+    let taken = state-taken _ _ (sym (c .before .before .before .state-number .ensures) ∙ c .before .before .if1 .left) in
+    valid-split _ (taken .1) .drafts
 
 tell-requires-3 : tie.Need-tell-requires-3
 tell-requires-3 c κs = search needs

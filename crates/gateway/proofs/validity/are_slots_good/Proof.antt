@@ -5,8 +5,8 @@ use Prim.Native.Nat.{_-_, _≤_}
 use native.Mathlib.Omega.{arith}
 use borrow.Author.Tests.{not-true, not-false}
 use borrow.Author.Needs.{needs}
-use Rattle.gateway.specs.Layout.{every}
-use Rattle.gateway.proofs.Laws.{every-none, every-next, every-fails}
+use Rattle.archive.specs.Layout.{every}
+use Rattle.archive.proofs.Laws.{every-none, every-next, every-fails}
 use Rattle.gateway.specs.Validity.{goodSlotAt, goodSlots}
 use Rattle.gateway.proofs.validity.are_slots_good.Statement.{statement}
 use Rattle.gateway.proofs.validity.are_slots_good.Tie as tie

@@ -6,9 +6,10 @@ use native.Mathlib.Omega.{arith}
 use lib.ListN.{getD}
 use borrow.Author.Tests.{not-true, not-false}
 use borrow.Author.Needs.{needs}
-use Rattle.gateway.specs.Layout.{every}
-use Rattle.gateway.specs.Validity.{booleanOrNone, goodTriggers}
-use Rattle.gateway.proofs.Laws.{every-none, every-next, every-fails}
+use Rattle.points.specs.Table.{booleanOrNone}
+use Rattle.archive.specs.Layout.{every}
+use Rattle.gateway.specs.Validity.{goodTriggers}
+use Rattle.archive.proofs.Laws.{every-none, every-next, every-fails}
 use Rattle.gateway.proofs.validity.are_triggers_good.Statement.{statement}
 use Rattle.gateway.proofs.validity.are_triggers_good.Tie as tie
 use Rattle.gateway.proofs.validity.are_triggers_good.Reads as reads

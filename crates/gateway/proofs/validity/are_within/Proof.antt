@@ -6,8 +6,8 @@ use native.Mathlib.Omega.{arith}
 use lib.Dec.{leb}
 use lib.ListN.{getD}
 use borrow.Author.Tests.{le-leb, lt-leb}
-use Rattle.gateway.specs.Layout.{every}
-use Rattle.gateway.proofs.Laws.{every-none, every-next, every-fails}
+use Rattle.archive.specs.Layout.{every}
+use Rattle.archive.proofs.Laws.{every-none, every-next, every-fails}
 use Rattle.gateway.specs.Validity.{withinFiles}
 use Rattle.gateway.proofs.validity.are_within.Statement.{statement}
 use Rattle.gateway.proofs.validity.are_within.Tie as tie

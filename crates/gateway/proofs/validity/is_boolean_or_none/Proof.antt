@@ -3,7 +3,7 @@ use mathlib.Core.Path.{sym, _∙_}
 use Prim.Native.Nat.{_-_}
 use borrow.Author.Needs.{needs}
 use borrow.Author.Tests.{ne-eqb}
-use Rattle.gateway.specs.Validity.{booleanOrNone}
+use Rattle.points.specs.Table.{booleanOrNone}
 use Rattle.gateway.proofs.validity.is_boolean_or_none.Statement.{statement}
 use Rattle.gateway.proofs.validity.is_boolean_or_none.Tie as tie
 

@@ -1,62 +1,128 @@
--- `groups::judge` meets its contract: each answer is the case of `judgedCard` that the tests before it pick. Assumes nothing.
-use Prim.Native.Nat.{_-_}
-use native.Mathlib.Omega.{arith}
+-- `groups::judge` meets its contract: after g places none was bad, and the size is that of their groups. Assumes nothing.
+use Prim.Native.Nat.{_+_, _-_, _≤_}
 use borrow.Author.Needs.{needs}
-use borrow.Author.Tests.{eq-eqb, ne-eqb, lt-ltb, le-ltb}
-use Rattle.points.specs.Groups.{judgedCard, recordSize}
-use Rattle.points.proofs.Laws.{groups-size-small}
+use borrow.Author.Tests.{le-ltb, lt-ltb, ne-eqb}
+use mathlib.Core.Path.{_∙_, _≡_, ap, refl, sym}
+use native.Mathlib.Omega.{arith}
+use Rattle.points.proofs.Laws.{first-bad-here, group-size-small, groups-size-next, groups-size-small, no-bad-more}
+use Rattle.points.specs.Card.{card}
+use Rattle.points.specs.Groups.{countAt, firstBad, firstPointAt, groupSize, groupsSize, isBad, judgedCard, recordSize}
 use Rattle.points.proofs.groups.judge.Statement.{statement}
 use Rattle.points.proofs.groups.judge.Tie as tie
 
-returns : tie.Need-returns
+abbrev Inv-loop : tie.InvT-loop
+Inv-loop groups size₀ g₀ size g = (g ≤ 16) × (firstBad groups g ≡ 0) × (size ≡ 6 + groupsSize groups g)
+
+abbrev μ-loop : tie.MeasureT-loop
+μ-loop groups size₀ g₀ size g = 16 - g
+
+returns : tie.Need-returns Inv-loop μ-loop
 unfolding judgedCard
 returns c = simp (ne-eqb _ _ (c .if1 .taken))
 
-first-bad-requires : tie.Need-first-bad-requires
-first-bad-requires c κs = search needs
+loop-holds : tie.Need-loop-holds Inv-loop μ-loop
+unfolding firstBad groupsSize
+loop-holds c = (omega arith, refl, refl)
 
-returns-2 : tie.Need-returns-2
+group-at-requires : tie.Need-group-at-requires Inv-loop μ-loop
+group-at-requires c κs = (c .before .before .if1 .left, omega arith)
+
+is-bad-requires : tie.Need-is-bad-requires Inv-loop μ-loop
+is-bad-requires c κs = search needs
+
+add-t9 : tie.Need-add-t9 Inv-loop μ-loop
+add-t9 c = omega arith
+
+cast-t10 : tie.Need-cast-t10 Inv-loop μ-loop
+cast-t10 c = omega arith
+
+returns-2 : tie.Need-returns-2 Inv-loop μ-loop
 unfolding judgedCard
 returns-2 c =
-    let list = eq-eqb _ _ (c .before .before .if1 .left) in
-    let first = c .before .first-bad .ensures in
-    let bad = lt-ltb _ _ (c .if2 .taken) in
-    simp (list, ← first, bad)
+    let gs = c .before .before .before .before .before .before .before .args .groups .now in
+    let at = c .before .before .before .before .loop in
+    let bad = sym (ap isBad (c .before .before .group-at .ensures)) ∙ sym (c .before .is-bad .ensures) ∙ c .if2 .taken in
+    let first = first-bad-here gs (at .g) 16 (at .inv .1) bad (omega arith) in
+    simp (c .before .before .before .before .before .if1 .left, first, lt-ltb 0 (at .g + 1) (omega arith))
 
-groups-size-requires : tie.Need-groups-size-requires
-groups-size-requires c κs = search needs
+mul-group-size : tie.Need-mul-group-size Inv-loop μ-loop
+mul-group-size c = omega arith
 
-add-size : tie.Need-add-size
-add-size c = omega (arith, c .groups-size .ensures, groups-size-small (c .before .before .before .before .before .args .groups .now) 16)
+add-group-size : tie.Need-add-group-size Inv-loop μ-loop
+add-group-size c = omega arith
 
-returns-3 : tie.Need-returns-3
+mul-group-size-2 : tie.Need-mul-group-size-2 Inv-loop μ-loop
+mul-group-size-2 c = omega arith
+
+shared-slice-read-group-size : tie.Need-shared-slice-read-group-size Inv-loop μ-loop
+shared-slice-read-group-size c = omega arith
+
+group-size-requires : tie.Need-group-size-requires Inv-loop μ-loop
+group-size-requires c κs = search needs
+
+add-size : tie.Need-add-size Inv-loop μ-loop
+add-size c =
+    let gs = c .before .before .before .before .before .before .before .before .before .args .groups .now in
+    let at = c .before .before .before .before .before .before .loop in
+    let here = c .group-size .ensures ∙ ap (λ group. groupSize group (countAt gs (at .g))) (c .before .before .before .before .group-at .ensures) in
+    omega (arith, at .inv .2, here, group-size-small (firstPointAt gs (at .g)) (countAt gs (at .g)), groups-size-small gs (at .g))
+
+add-g : tie.Need-add-g Inv-loop μ-loop
+add-g c = omega arith
+
+loop-less : tie.Need-loop-less Inv-loop μ-loop
+loop-less c = omega arith
+
+loop-again : tie.Need-loop-again Inv-loop μ-loop
+loop-again c =
+    let gs = c .before .before .before .before .before .before .before .before .before .args .groups .now in
+    let at = c .before .before .before .before .before .before .loop in
+    let group = c .before .before .before .before .group-at .ensures in
+    let good = sym (ap isBad group) ∙ sym (c .before .before .before .is-bad .ensures) ∙ c .before .before .if2 .left in
+    let here = c .group-size .ensures ∙ ap (λ x. groupSize x (countAt gs (at .g))) group in
+    (omega arith, no-bad-more gs (at .g) (at .inv .1) good, omega (arith, at .inv .2, here, groups-size-next gs (at .g)))
+
+returns-3 : tie.Need-returns-3 Inv-loop μ-loop
 unfolding judgedCard recordSize
 returns-3 c =
-    let list = eq-eqb _ _ (c .before .before .before .before .if1 .left) in
-    let first = c .before .before .before .first-bad .ensures in
-    let none = le-ltb _ _ (c .before .before .if2 .left) in
-    let size = c .before .groups-size .ensures in
-    let over = lt-ltb _ _ (c .if3 .taken) in
-    simp (list, ← first, none, ← size, over)
+    let at = c .before .before .loop in
+    let gs = c .before .before .before .before .before .args .groups .now in
+    let all : at .g ≡ 16 = omega arith in
+    let none : firstBad gs 16 ≡ 0 = rw all at (at .inv .1) in
+    let size : at .size ≡ 6 + groupsSize gs 16 = rw all at (at .inv .2) in
+    simp (c .before .before .before .if1 .left, none, lt-ltb 250 (6 + groupsSize gs 16) (omega (arith, c .if3 .taken, size)))
 
-returns-4 : tie.Need-returns-4
+returns-4 : tie.Need-returns-4 Inv-loop μ-loop
 unfolding judgedCard recordSize
 returns-4 c =
-    let list = eq-eqb _ _ (c .before .before .before .before .if1 .left) in
-    let first = c .before .before .before .first-bad .ensures in
-    let none = le-ltb _ _ (c .before .before .if2 .left) in
-    let size = c .before .groups-size .ensures in
-    let fits = le-ltb _ _ (c .if3 .left) in
-    simp (list, ← first, none, ← size, fits)
+    let at = c .before .before .loop in
+    let gs = c .before .before .before .before .before .args .groups .now in
+    let all : at .g ≡ 16 = omega arith in
+    let none : firstBad gs 16 ≡ 0 = rw all at (at .inv .1) in
+    let size : at .size ≡ 6 + groupsSize gs 16 = rw all at (at .inv .2) in
+    simp (c .before .before .before .if1 .left, none, le-ltb 250 (6 + groupsSize gs 16) (omega (arith, c .if3 .left, size))) (ap (card 0) size)
 
 pub judge-spec : {M : Type 1} → statement M
 judge-spec =
     tie.close
     (tie.spec
+    Inv-loop
+    μ-loop
     returns
-    first-bad-requires
+    loop-holds
+    group-at-requires
+    is-bad-requires
+    add-t9
+    cast-t10
     returns-2
-    groups-size-requires
+    mul-group-size
+    add-group-size
+    mul-group-size-2
+    shared-slice-read-group-size
+    group-size-requires
     add-size
+    add-g
+    loop-less
+    loop-again
     returns-3
     returns-4)
