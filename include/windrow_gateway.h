@@ -5,8 +5,9 @@
  * call is given. `number` is the service card's: 0 is done, anything else a refusal, and then the state is the one given and the
  * archive is as it was. Nothing is allocated or kept. Any content of state and archive is answered: an archive of another length
  * than the state's by WINDROW_MEMORY (1), a state against the rules by WINDROW_FOREIGN (2), and then the call's own numbers, the
- * lowest first. Only a bool that is neither 0 nor 1 must not be handed in, and the pointers must not be null, even with a length of
- * 0. Keep state and archive together: they may be stored, and handed back later as they were.
+ * lowest first. Only a bool that is neither 0 nor 1 must not be handed in, the pointers must not be null, even with a length of 0,
+ * and the archive must not overlap a table that is handed in with it. Keep state and archive together: they may be stored, and
+ * handed back later as they were.
  */
 #ifndef WINDROW_GATEWAY_H
 #define WINDROW_GATEWAY_H
@@ -16,6 +17,7 @@
 #include <stdint.h>
 
 #include "windrow_card.h"
+#include "windrow_stamp.h"
 
 #ifdef __cplusplus
 extern "C" {
@@ -101,6 +103,16 @@ struct windrow_gateway_answer windrow_gateway_trigger(struct windrow_state state
 /* Sets an alarm slot, 1-32. At any time, empties nothing. Refused with 12; each entry is checked even where point is 0. */
 struct windrow_gateway_answer windrow_gateway_alarm(struct windrow_state state, const uint8_t *archive, size_t archive_length,
                                                     uint32_t slot, uint16_t point, uint8_t kind, uint16_t transducer);
+
+/*
+ * A scan of the live table, 1,424 bytes, at a date and a time; a clock may go back. The first scan after fresh only remembers the
+ * table's Booleans. A later one, if running, compares them with those remembered. Each file of a limit over 0 whose trigger went
+ * from 0 to 1 captures a record of this table and stamp, behind the one captured last, or over record 1 where that was the last
+ * record. Slots log to the alarm file in rising order of point, then slot: types 0 and 2 any change of their point, types 1 and 3 a
+ * rise only. Running or not, the Booleans are then remembered. Refused with 3 or 4.
+ */
+struct windrow_gateway_answer windrow_gateway_scan(struct windrow_state state, uint8_t *archive, size_t archive_length,
+                                                   const uint8_t *table, size_t table_length, struct windrow_stamp stamp);
 
 #ifdef __cplusplus
 }

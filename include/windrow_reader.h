@@ -15,6 +15,7 @@
 #include <stdint.h>
 
 #include "windrow_card.h" /* of whose numbers the reading end answers 0, 7, 8, 14, 15 and 16 */
+#include "windrow_stamp.h"
 
 #ifdef __cplusplus
 extern "C" {
@@ -36,16 +37,6 @@ struct windrow_part {
     uint32_t carried;
     uint32_t place;
     uint32_t length;
-};
-
-/* A date and a time, whatever the date order; years 0-99. */
-struct windrow_stamp {
-    uint8_t month;
-    uint8_t day;
-    uint8_t year;
-    uint8_t hour;
-    uint8_t minute;
-    uint8_t second;
 };
 
 struct windrow_stamp_answer {

@@ -1,24 +1,32 @@
 /*
- * A gateway's firmware in C: makes a gateway, defines a file, starts it, sets a trigger and an alarm slot, and is refused what the
- * service card refuses; asserts the header's layout. Offsets and sizes are worked out by hand from C's rules for x86-64, and the
- * expected lines are written from document 01. The reader's header is included as well: both serve one file.
+ * A gateway's firmware in C: makes a gateway, defines a file, starts it, sets a trigger and an alarm slot, scans, and is refused
+ * what the service card refuses; asserts the header's layout. Offsets and sizes are worked out by hand from C's rules for x86-64,
+ * and the expected lines are written from document 01. The reader's header is included as well: both serve one file.
  */
 #include <assert.h>
 #include <stdio.h>
 #include <string.h>
 
+#include "stamp_layout.h"
 #include "windrow_gateway.h"
 #include "windrow_reader.h"
 
 #define ROOMY 11006 /* the alarm file's 11,000 bytes and one bare stamp */
 #define TIGHT 11005
 
+#define TWO_RECORDS 11028 /* the alarm file, and two records of 14 bytes before it */
+#define RECORD 14
+#define ALARM 22
+
 static uint8_t archive[ROOMY + 1];
+static uint8_t records[TWO_RECORDS];
+static uint8_t live[1424];
 
 static const uint16_t bare_stamp[32] = {0};
 static const uint16_t fine[32] = {7101, 61};                  /* 6 + 61 x 4 = 250 bytes */
 static const uint16_t over_long[32] = {7101, 61, 3001, 1};    /* 252 bytes */
 static const uint16_t past_the_row[32] = {0, 0, 7228, 1, 7228, 2}; /* place 3 ends at 7229 */
+static const uint16_t watched[32] = {1803, 9, 3001, 1, 5101, 1}; /* 6 + 2 + 2 + 4 = 14 bytes */
 
 static void check_layout(void)
 {
@@ -35,6 +43,8 @@ static void check_layout(void)
     assert(offsetof(struct windrow_slot, point) == 0);
     assert(offsetof(struct windrow_slot, transducer) == 2);
     assert(offsetof(struct windrow_slot, kind) == 4);
+
+    check_stamp_layout();
 
     assert(sizeof(struct windrow_state) == 1604);
     assert(offsetof(struct windrow_state, site) == 0);
@@ -68,13 +78,18 @@ static struct windrow_state told(const char *call, struct windrow_gateway_answer
     return a.state;
 }
 
-/* How many of the archive's bytes are not 0. */
-static unsigned filled(void)
+/* How many bytes are not 0. */
+static unsigned filled_of(const uint8_t *bytes, size_t length)
 {
     unsigned n = 0;
-    for (size_t i = 0; i < sizeof archive; i++)
-        n += archive[i] != 0;
+    for (size_t i = 0; i < length; i++)
+        n += bytes[i] != 0;
     return n;
+}
+
+static unsigned filled(void)
+{
+    return filled_of(archive, sizeof archive);
 }
 
 static void one_bare_stamp(void)
@@ -145,11 +160,126 @@ static void refused_fresh(void)
     told("unlock the zeros over memory", windrow_gateway_unlock(s, archive, ROOMY));
 }
 
+/* What the probes have read: 1801 and 1809 on, 3001 is -5, litres 100,000, 7101 is 55.5. */
+static void fill_live(void)
+{
+    static const uint8_t minus_five[] = {0xFF, 0xFB};
+    static const uint8_t litres[] = {0x00, 0x01, 0x86, 0xA0};
+    static const uint8_t degrees[] = {0x42, 0x5E, 0x00, 0x00};
+    live[0] = 0x01;
+    live[1] = 0x01;
+    memcpy(live + 16, minus_five, sizeof minus_five);
+    memcpy(live + 404, litres, sizeof litres);
+    memcpy(live + 656, degrees, sizeof degrees);
+}
+
+/* Points 1803 and 1811, and the turner passes of point 5101. */
+static void now(bool on_1803, bool on_1811, uint8_t passes)
+{
+    live[0] = on_1803 ? 0x05 : 0x01;
+    live[1] = on_1811 ? 0x05 : 0x01;
+    live[403] = passes;
+}
+
+/* A scan on 29 August 2007, 36 minutes after the hour. */
+static struct windrow_state scan(const char *when, struct windrow_state s, uint8_t hour, uint8_t second)
+{
+    struct windrow_stamp stamp = {8, 29, 7, hour, 36, second};
+    s = told(when, windrow_gateway_scan(s, records, sizeof records, live, sizeof live, stamp));
+    printf("pointers %u and %u\n", s.pointers[0], s.pointers[10]);
+    return s;
+}
+
+static void show(const char *what, size_t place, size_t length)
+{
+    printf("%s:", what);
+    for (size_t i = 0; i < length; i++)
+        printf(" %02X", records[place + i]);
+    printf("\n");
+}
+
+/* A gateway whose file 1 keeps two records, one a rise of 1803; its alarm slots are on 1811, rises only, and 1803, any change. */
+static struct windrow_state watching(void)
+{
+    struct windrow_state s = windrow_gateway_fresh(false, 17, records, sizeof records).state;
+    s = windrow_gateway_trigger(s, records, sizeof records, 1, 1803).state;
+    s = windrow_gateway_alarm(s, records, sizeof records, 1, 1811, 1, 0).state;
+    s = windrow_gateway_alarm(s, records, sizeof records, 2, 1803, 0, 7101).state;
+    s = windrow_gateway_unlock(s, records, sizeof records).state;
+    s = windrow_gateway_define(s, records, sizeof records, 1, watched, 2).state;
+    return told("start watching", windrow_gateway_start(s, records, sizeof records));
+}
+
+static struct windrow_state first_rise(struct windrow_state s)
+{
+    now(true, true, 7);
+    s = scan("first scan with the trigger on", s, 11, 50);
+    now(false, false, 7);
+    s = scan("both off", s, 11, 51);
+    now(true, true, 7);
+    s = scan("both on", s, 11, 52);
+    show("record 1", 0, RECORD);
+    show("record 2", RECORD, RECORD);
+    show("alarm 1", 2 * RECORD, ALARM);
+    show("alarm 2", 2 * RECORD + ALARM, ALARM);
+    show("alarm 3", 2 * RECORD + 2 * ALARM, ALARM);
+    return s;
+}
+
+static void refused_scans(struct windrow_state s)
+{
+    static const struct windrow_stamp noon = {8, 29, 7, 12, 0, 0};
+    static const struct windrow_stamp no_month = {0, 29, 7, 12, 0, 0};
+    now(false, false, 7);
+    told("scan with no month", windrow_gateway_scan(s, records, sizeof records, live, sizeof live, no_month));
+    told("scan of a byte less", windrow_gateway_scan(s, records, sizeof records, live, sizeof live - 1, no_month));
+    told("scan over a byte less", windrow_gateway_scan(s, records, sizeof records - 1, live, sizeof live - 1, no_month));
+    s.triggers[9] = 1929;
+    told("scan of a damaged state", windrow_gateway_scan(s, records, sizeof records, live, sizeof live, noon));
+}
+
+static struct windrow_state raised_while_stopped(struct windrow_state s)
+{
+    s = told("stop watching", windrow_gateway_stop(s, records, sizeof records));
+    now(false, true, 8);
+    s = scan("off while stopped", s, 11, 53);
+    now(true, true, 8);
+    s = scan("on while stopped", s, 11, 54);
+    s = told("start watching again", windrow_gateway_start(s, records, sizeof records));
+    return scan("still on", s, 11, 55);
+}
+
+static void round_again(struct windrow_state s)
+{
+    now(false, true, 8);
+    s = scan("off", s, 11, 57);
+    now(true, true, 8);
+    s = scan("on", s, 11, 58);
+    now(false, true, 9);
+    s = scan("off, an hour back", s, 10, 58);
+    now(true, true, 9);
+    s = scan("on", s, 10, 59);
+    show("record 1", 0, RECORD);
+    show("record 2", RECORD, RECORD);
+    size_t end = 2 * RECORD + 7 * ALARM;
+    show("alarm 7", end - ALARM, ALARM);
+    printf("filled bytes past alarm 7: %u\n", filled_of(records + end, sizeof records - end));
+}
+
+static void scans(void)
+{
+    fill_live();
+    struct windrow_state s = first_rise(watching());
+    refused_scans(s);
+    round_again(raised_while_stopped(s));
+}
+
 int main(void)
 {
     check_layout();
     one_bare_stamp();
     no_room();
     refused_fresh();
+    scans();
     return 0;
 }

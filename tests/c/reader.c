@@ -6,6 +6,7 @@
 #include <stdio.h>
 #include <string.h>
 
+#include "stamp_layout.h"
 #include "windrow_reader.h"
 
 #define GROUP_NUMBERS 32
@@ -28,13 +29,7 @@ static void check_layout(void)
     assert(offsetof(struct windrow_part, carried) == 4);
     assert(offsetof(struct windrow_part, place) == 8);
     assert(offsetof(struct windrow_part, length) == 12);
-    assert(sizeof(struct windrow_stamp) == 6);
-    assert(offsetof(struct windrow_stamp, month) == 0);
-    assert(offsetof(struct windrow_stamp, day) == 1);
-    assert(offsetof(struct windrow_stamp, year) == 2);
-    assert(offsetof(struct windrow_stamp, hour) == 3);
-    assert(offsetof(struct windrow_stamp, minute) == 4);
-    assert(offsetof(struct windrow_stamp, second) == 5);
+    check_stamp_layout();
     assert(sizeof(struct windrow_stamp_answer) == 16);
     assert(offsetof(struct windrow_stamp_answer, number) == 0);
     assert(offsetof(struct windrow_stamp_answer, carried) == 4);

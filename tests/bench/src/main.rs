@@ -2,14 +2,15 @@
 //! figures and the command.
 
 mod plain;
+mod scans;
 
 use std::hint::black_box;
 use std::io::Write;
 use std::process::{Command, Stdio};
 use std::time::{Duration, Instant};
 
-use model::points::groups_from_first_place;
-use model::record::{captured_record, Stamp};
+use model::points::{groups_from_first_place, record_size};
+use model::record::{captured_record, AUGUST};
 use reader::{ffi, random};
 
 /// As many as crates/record_speed writes.
@@ -17,8 +18,6 @@ const RECORDS: u32 = 2_000_000;
 const DECODES: u32 = 2_000;
 /// Each is timed this often, and the best time counts.
 const TRIES: usize = 5;
-
-const STAMP: Stamp = Stamp { month: 8, day: 29, year: 7, hour: 11, minute: 36, second: 52 };
 
 fn best(mut once: impl FnMut()) -> Duration {
     (0..TRIES)
@@ -52,13 +51,13 @@ fn plain_records(groups: &[u16; 32]) -> (Duration, u64) {
     let mut total = 0;
     let time = best(|| {
         let mut table = vec![0u8; 1424];
-        let mut part = vec![0u8; plain::record_size(groups)];
+        let mut part = vec![0u8; record_size(groups)];
         let size = part.len();
         let mut sum = 0u64;
         for i in 0..RECORDS {
             table[1] = i as u8;
             table[700] = i as u8;
-            plain::write_record(black_box(&mut part), false, STAMP, black_box(&table), black_box(groups));
+            plain::write_record(black_box(&mut part), false, AUGUST, black_box(&table), black_box(groups));
             sum = (sum + u64::from(part[i as usize % size])) % (1 << 32);
         }
         total = sum;
@@ -82,7 +81,7 @@ fn report(name: &str, proved: Duration, plain: Duration) {
 fn decoding() {
     let groups = groups_from_first_place(&[(7101, 61)]);
     let table = random::Random::new(1).bytes(1424);
-    let frame = random::reply(1, &captured_record(&groups, &table, STAMP, false));
+    let frame = random::reply(1, &captured_record(&groups, &table, AUGUST, false));
     let proved = best(|| {
         for _ in 0..DECODES {
             for e in 1..=61 {
@@ -104,4 +103,5 @@ fn main() {
     records("250-byte record of 61 floats written", "f", groups_from_first_place(&[(7101, 61)]));
     records("record of 127 Booleans from 1802 written", "b", groups_from_first_place(&[(1802, 127)]));
     decoding();
+    scans::scans();
 }

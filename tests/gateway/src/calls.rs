@@ -1,13 +1,15 @@
 //! The calls after Fresh: random ones, on the library and on the model.
 
+use gateway::ffi::{self, Answer, State};
+use gateway::states::{any_groups, boolean_or_none, definitions_of, float_or_none, limit_near, no_boolean, no_float};
 use model::card::Answer as Told;
 use model::machine::Machine;
+use model::record::Stamp;
 use reader::random::Random;
 
-use crate::ffi::{self, Answer, State};
-use crate::states::{any_groups, boolean_or_none, definitions_of, float_or_none, limit_near, no_boolean, no_float};
+use crate::scans::{self, Table};
 
-#[derive(Clone, Debug)]
+#[derive(Clone, Debug, PartialEq, Eq)]
 pub enum Call {
     Unlock,
     Lock,
@@ -16,9 +18,12 @@ pub enum Call {
     Define { file: u32, groups: [u16; 32], limit: u16 },
     Trigger { file: u32, point: u16 },
     Alarm { slot: u32, point: u16, kind: u8, transducer: u16 },
+    Scan { table: Table, stamp: Stamp },
 }
 
-pub const NAMES: [&str; 7] = ["unlock", "lock", "stop", "start", "define", "trigger", "alarm"];
+/// The calls by their kinds, and Fresh, with which a list starts.
+pub const NAMES: [&str; 9] = ["unlock", "lock", "stop", "start", "define", "trigger", "alarm", "scan", "fresh"];
+pub const FRESH: usize = 8;
 
 /// Mostly 1 to `most`, now and then a neighbour or a number that is in range only when cut to 8 or 16 bits.
 fn index(random: &mut Random, most: u32) -> u32 {
@@ -42,32 +47,40 @@ impl Call {
     /// A random call; a definition's n is near what the state's archive holds.
     pub fn random(random: &mut Random, s: &State) -> Call {
         // an unlocked gateway is there to be defined
-        let choice = if s.unlocked && random.chance(3) { 9 } else { random.below(20) };
+        let choice = if s.unlocked && random.chance(3) { 9 } else { random.below(32) };
         match choice {
             0..=2 => Call::Unlock,
             3 => Call::Lock,
             4..=5 => Call::Stop,
             6..=8 => Call::Start,
-            9..=14 => {
-                let file = index(random, 10);
-                let groups = any_groups(random);
-                let drafts = definitions_of(&s.draft);
-                let at = (file as usize).clamp(1, 10) - 1;
-                let limit = if model::points::judge_definition(&groups).is_ok() {
-                    limit_near(random, &drafts, at, &groups, s.site.archive as usize)
-                } else {
-                    random.below(4) as u16
-                };
-                Call::Define { file, groups, limit }
-            }
+            9..=14 => Call::define(random, s),
             15..=16 => Call::Trigger { file: index(random, 10), point: mostly(random, boolean_or_none, no_boolean) },
-            _ => Call::Alarm {
+            17..=19 => Call::Alarm {
                 slot: index(random, 32),
                 point: mostly(random, boolean_or_none, no_boolean),
                 kind: if random.chance(8) { random.next() as u8 } else { random.below(4) as u8 },
                 transducer: mostly(random, float_or_none, no_float),
             },
+            _ => Call::scan(random, s),
         }
+    }
+
+    fn define(random: &mut Random, s: &State) -> Call {
+        let file = index(random, 10);
+        let groups = any_groups(random);
+        let drafts = definitions_of(&s.draft);
+        let at = (file as usize).clamp(1, 10) - 1;
+        let limit = if model::points::judge_definition(&groups).is_ok() {
+            limit_near(random, &drafts, at, &groups, s.site.archive as usize)
+        } else {
+            random.below(4) as u16
+        };
+        Call::Define { file, groups, limit }
+    }
+
+    /// A scan that the state may capture from.
+    pub fn scan(random: &mut Random, s: &State) -> Call {
+        Call::Scan { table: scans::table(random, s), stamp: scans::stamp(random) }
     }
 
     /// The call's place in NAMES.
@@ -80,10 +93,11 @@ impl Call {
             Call::Define { .. } => 4,
             Call::Trigger { .. } => 5,
             Call::Alarm { .. } => 6,
+            Call::Scan { .. } => 7,
         }
     }
 
-    pub fn on_library(&self, s: State, archive: &mut [u8]) -> Answer {
+    pub fn on_library(&mut self, s: State, archive: &mut [u8]) -> Answer {
         match self {
             Call::Unlock => ffi::unlock(s, archive),
             Call::Lock => ffi::lock(s, archive),
@@ -92,6 +106,7 @@ impl Call {
             Call::Define { file, groups, limit } => ffi::define(s, archive, *file, groups, *limit),
             Call::Trigger { file, point } => ffi::trigger(s, archive, *file, *point),
             Call::Alarm { slot, point, kind, transducer } => ffi::alarm(s, archive, *slot, *point, *kind, *transducer),
+            Call::Scan { table, stamp } => ffi::scan(s, archive, &mut table.0, (*stamp).into()),
         }
     }
 
@@ -106,6 +121,7 @@ impl Call {
             Call::Alarm { slot, point, kind, transducer } => {
                 machine.alarm(archive_len, *slot as usize, *point, u16::from(*kind), *transducer)
             }
+            Call::Scan { table, stamp } => machine.scan(archive_len, &table.0, *stamp),
         }
     }
 }

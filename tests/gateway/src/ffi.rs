@@ -1,5 +1,7 @@
 //! The exported functions of libgateway.a, as include/windrow_gateway.h declares them.
 
+use reader::ffi::Stamp;
+
 #[repr(C)]
 #[derive(Clone, Copy, Debug, PartialEq, Eq)]
 pub struct Site {
@@ -73,13 +75,22 @@ extern "C" {
         kind: u8,
         transducer: u16,
     ) -> Answer;
+    fn windrow_gateway_scan(
+        s: State,
+        archive: *mut u8,
+        len: usize,
+        table: *const u8,
+        table_len: usize,
+        stamp: Stamp,
+    ) -> Answer;
 }
 
 pub fn fresh(day_first: bool, unit: u8, archive: &mut [u8]) -> Answer {
     unsafe { windrow_gateway_fresh(day_first, unit, archive.as_mut_ptr(), archive.len()) }
 }
 
-// The calls that only look at the archive's length are lent it to write as well, so that a byte written would be seen.
+// What a call only reads, as the archive of most calls, the groups and the live table, it is lent to write as well, so that a byte
+// written would be seen.
 
 pub fn unlock(s: State, archive: &mut [u8]) -> Answer {
     unsafe { windrow_gateway_unlock(s, archive.as_mut_ptr(), archive.len()) }
@@ -97,8 +108,8 @@ pub fn start(s: State, archive: &mut [u8]) -> Answer {
     unsafe { windrow_gateway_start(s, archive.as_mut_ptr(), archive.len()) }
 }
 
-pub fn define(s: State, archive: &mut [u8], file: u32, groups: &[u16; 32], limit: u16) -> Answer {
-    unsafe { windrow_gateway_define(s, archive.as_mut_ptr(), archive.len(), file, groups.as_ptr(), limit) }
+pub fn define(s: State, archive: &mut [u8], file: u32, groups: &mut [u16; 32], limit: u16) -> Answer {
+    unsafe { windrow_gateway_define(s, archive.as_mut_ptr(), archive.len(), file, groups.as_mut_ptr(), limit) }
 }
 
 pub fn trigger(s: State, archive: &mut [u8], file: u32, point: u16) -> Answer {
@@ -107,4 +118,8 @@ pub fn trigger(s: State, archive: &mut [u8], file: u32, point: u16) -> Answer {
 
 pub fn alarm(s: State, archive: &mut [u8], slot: u32, point: u16, kind: u8, transducer: u16) -> Answer {
     unsafe { windrow_gateway_alarm(s, archive.as_mut_ptr(), archive.len(), slot, point, kind, transducer) }
+}
+
+pub fn scan(s: State, archive: &mut [u8], table: &mut [u8], stamp: Stamp) -> Answer {
+    unsafe { windrow_gateway_scan(s, archive.as_mut_ptr(), archive.len(), table.as_mut_ptr(), table.len(), stamp) }
 }

@@ -155,7 +155,7 @@ pub fn no_float(random: &mut Random) -> u16 {
 }
 
 /// Good groups: random ones, the longest record, or none at all.
-fn good_groups(random: &mut Random) -> [u16; 32] {
+pub fn good_groups(random: &mut Random) -> [u16; 32] {
     match random.below(8) {
         0 => [0; 32],
         1 => groups_from_first_place(&[(7101, 61)]),
@@ -232,6 +232,25 @@ pub fn limit_near(random: &mut Random, files: &Definitions, file: usize, numbers
     limit.min(65_535) as u16
 }
 
+/// A file laid out where there is room, drafted, and given a trigger.
+fn any_file(random: &mut Random, s: &mut State, file: usize) {
+    let archive = s.site.archive as usize;
+    if random.chance(2) {
+        let numbers = good_groups(random);
+        set_groups(&mut s.layout, file, &numbers);
+        let laid_out = definitions_of(&s.layout);
+        s.layout.limits[file] = limit_near(random, &laid_out, file, &numbers, archive);
+        if layout_bytes(&definitions_of(&s.layout)) > archive as u64 {
+            s.layout.limits[file] = 0;
+        }
+    }
+    if random.chance(3) {
+        set_groups(&mut s.draft, file, &good_groups(random));
+        s.draft.limits[file] = if random.chance(8) { random.next() as u16 } else { random.below(3) as u16 };
+    }
+    s.triggers[file] = boolean_or_none(random);
+}
+
 /// A state that is not Foreign, though no list of calls may leave it: every field as free as row 2 lets it be.
 pub fn standing(random: &mut Random) -> State {
     let archive = archive_length(random);
@@ -246,21 +265,7 @@ pub fn standing(random: &mut Random) -> State {
     s.scanned = random.chance(2);
     s.booleans.copy_from_slice(&random.bytes(16));
     for file in 0..USER_FILES {
-        if random.chance(2) {
-            let numbers = good_groups(random);
-            set_groups(&mut s.layout, file, &numbers);
-            let laid_out = definitions_of(&s.layout);
-            let limit = limit_near(random, &laid_out, file, &numbers, archive);
-            s.layout.limits[file] = limit;
-            if layout_bytes(&definitions_of(&s.layout)) > archive as u64 {
-                s.layout.limits[file] = 0;
-            }
-        }
-        if random.chance(3) {
-            set_groups(&mut s.draft, file, &good_groups(random));
-            s.draft.limits[file] = if random.chance(8) { random.next() as u16 } else { random.below(3) as u16 };
-        }
-        s.triggers[file] = boolean_or_none(random);
+        any_file(random, &mut s, file);
     }
     if random.chance(3) {
         s.draft = s.layout;
@@ -274,7 +279,23 @@ pub fn standing(random: &mut Random) -> State {
         s.pointers[file] = if random.chance(4) { n as u16 } else { random.below(n + 1) as u16 };
         s.requested[file] = if random.chance(4) { n as u16 } else { random.below(n + 1) as u16 };
     }
+    if random.chance(60) {
+        deepen(random, &mut s);
+    }
     s
+}
+
+/// One file of as many records as there can be, about to go round; the others idle.
+fn deepen(random: &mut Random, s: &mut State) {
+    let file = random.below(10) as usize;
+    s.layout = ZEROS.layout;
+    s.layout.limits[file] = 65_535;
+    s.site.archive = layout_bytes(&definitions_of(&s.layout)) as u32 + random.below(20) as u32;
+    s.pointers[..USER_FILES].fill(0);
+    s.requested[..USER_FILES].fill(0);
+    s.pointers[file] = 65_535 - random.below(3) as u16;
+    s.triggers[file] = 1801 + random.below(128) as u16;
+    (s.running, s.unlocked, s.pending, s.scanned) = (true, false, false, true);
 }
 
 /// The clauses of Foreign, each with a name for the tally.

@@ -36,7 +36,9 @@ const SLOT_OFF: Slot = Slot {
 };
 
 /// The machine's state. Files and slots count from 1 in the calls and from
-/// 0 in the lists. `captures` has one list of records for each of 11 files.
+/// 0 in the lists. `captures` has one list of records for each of 11 files;
+/// `stood` is archive memory as it was when the lists began, zeros but for
+/// a machine that was taken as it stood.
 #[derive(Clone, Debug, PartialEq, Eq)]
 pub struct Machine {
     day_first: bool,
@@ -51,6 +53,7 @@ pub struct Machine {
     slots: [Slot; SLOTS],
     remembered: Option<[u8; BOOLEAN_BYTES]>,
     captures: Vec<Vec<Vec<u8>>>,
+    stood: Vec<u8>,
     requested: [u16; ALARM_FILE],
 }
 
@@ -69,6 +72,7 @@ fn all_off(archive_len: usize, day_first: bool, unit: u8) -> Machine {
         slots: [SLOT_OFF; SLOTS],
         remembered: None,
         captures: vec![Vec::new(); ALARM_FILE],
+        stood: vec![0; archive_len],
         requested: [0; ALARM_FILE],
     }
 }
@@ -95,11 +99,17 @@ impl Machine {
         (checked.into(), machine)
     }
 
-    /// A state that is not Foreign, taken as it stands, though no list of
-    /// calls may leave it: each file has as many captures, all zeros, as its
-    /// pointer tells. What archive memory holds is for the caller to keep.
-    pub fn standing(raw: &RawState, remembered: Option<[u8; BOOLEAN_BYTES]>) -> Machine {
+    /// A state that is not Foreign and memory of its length, taken as they
+    /// stand, though no list of calls may leave them: slots 1 to the pointer
+    /// of each file are its captures so far, so that the next one fills the
+    /// slot after the pointer, or slot 1 after the last.
+    pub fn standing(
+        raw: &RawState,
+        remembered: Option<[u8; BOOLEAN_BYTES]>,
+        memory: &[u8],
+    ) -> Machine {
         assert!(!foreign(raw), "a Foreign state is not taken");
+        assert_eq!(memory.len(), raw.archive_len as usize, "another length");
         let mut machine = all_off(raw.archive_len as usize, raw.day_first, raw.unit);
         machine.running = raw.running;
         machine.unlocked = raw.unlocked;
@@ -113,9 +123,12 @@ impl Machine {
             slot.float = raw.slot_float[i];
         }
         machine.remembered = remembered;
+        machine.stood.copy_from_slice(memory);
         for file in 1..=ALARM_FILE {
-            let zeros = vec![0; record_bytes(&machine.layout, file)];
-            machine.captures[file - 1] = vec![zeros; usize::from(raw.pointers[file - 1])];
+            let size = record_bytes(&machine.layout, file);
+            let slots = machine.stood_from(file).chunks_exact(size);
+            let so_far = slots.take(usize::from(raw.pointers[file - 1]));
+            machine.captures[file - 1] = so_far.map(<[u8]>::to_vec).collect();
         }
         machine.requested = raw.requested;
         machine
@@ -248,6 +261,7 @@ impl Machine {
     fn lay_out_draft(&mut self) {
         self.layout = self.drafts;
         self.captures = vec![Vec::new(); ALARM_FILE];
+        self.stood.fill(0);
         self.requested = [0; ALARM_FILE];
         self.pending = false;
     }

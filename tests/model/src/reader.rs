@@ -144,16 +144,7 @@ fn four_bytes(bytes: &[u8], from: usize) -> [u8; 4] {
 mod tests {
     use super::*;
     use crate::points::{groups_from_first_place, TABLE_BYTES};
-    use crate::record::captured_record;
-
-    const AUGUST: Stamp = Stamp {
-        month: 8,
-        day: 29,
-        year: 7,
-        hour: 11,
-        minute: 36,
-        second: 52,
-    };
+    use crate::record::{captured_record, AUGUST};
 
     fn reply(record: &[u8]) -> Vec<u8> {
         let mut frame = vec![1, 3, record.len() as u8];

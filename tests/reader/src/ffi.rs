@@ -20,6 +20,12 @@ pub struct Stamp {
     pub second: u8,
 }
 
+impl From<model::record::Stamp> for Stamp {
+    fn from(s: model::record::Stamp) -> Stamp {
+        Stamp { month: s.month, day: s.day, year: s.year, hour: s.hour, minute: s.minute, second: s.second }
+    }
+}
+
 #[repr(C)]
 #[derive(Clone, Copy, Debug, PartialEq, Eq)]
 pub struct StampAnswer {

@@ -19,18 +19,7 @@ fn part(answer: Result<std::ops::Range<usize>, Refusal>) -> PartAnswer {
 fn stamped(answer: Result<model::record::Stamp, Refusal>) -> StampAnswer {
     let none = Stamp { month: 0, day: 0, year: 0, hour: 0, minute: 0, second: 0 };
     match answer {
-        Ok(s) => StampAnswer {
-            number: 0,
-            carried: 0,
-            stamp: Stamp {
-                month: s.month,
-                day: s.day,
-                year: s.year,
-                hour: s.hour,
-                minute: s.minute,
-                second: s.second,
-            },
-        },
+        Ok(stamp) => StampAnswer { number: 0, carried: 0, stamp: stamp.into() },
         Err(r) => StampAnswer { number: r.number.into(), carried: r.carried.into(), stamp: none },
     }
 }

@@ -2,17 +2,8 @@
 //! another program's output.
 
 use model::points::{groups_from_first_place, GROUP_NUMBERS, PLACES, TABLE_BYTES};
-use model::record::{alarm_record, captured_record, Slot, Stamp};
+use model::record::{alarm_record, captured_record, Slot, AUGUST};
 
-/// 29 August 2007 11:36:52.
-const STAMP: Stamp = Stamp {
-    month: 8,
-    day: 29,
-    year: 7,
-    hour: 11,
-    minute: 36,
-    second: 52,
-};
 const MONTH_FIRST: bool = false;
 const DAY_FIRST: bool = true;
 
@@ -71,7 +62,7 @@ fn print_line(bytes: &[u8]) {
 }
 
 fn print_record(groups: &[u16; GROUP_NUMBERS], table: &[u8], day_first: bool) {
-    print_line(&captured_record(groups, table, STAMP, day_first));
+    print_line(&captured_record(groups, table, AUGUST, day_first));
 }
 
 fn print_boolean_groups(table: &[u8]) {
@@ -110,7 +101,7 @@ fn main() {
     }
     for (slot, new_bit) in &ALARMS {
         for day_first in [MONTH_FIRST, DAY_FIRST] {
-            print_line(&alarm_record(slot, *new_bit, &table, STAMP, day_first));
+            print_line(&alarm_record(slot, *new_bit, &table, AUGUST, day_first));
         }
     }
 }

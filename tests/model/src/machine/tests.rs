@@ -5,12 +5,13 @@ use super::*;
 use crate::card::Refusal;
 use crate::crc;
 use crate::points::{groups_from_first_place, TABLE_BYTES};
-use crate::record::Stamp;
+use crate::record::{Stamp, AUGUST};
 
 mod frames;
 mod mixed_run;
 mod scans;
 mod settings;
+mod standing;
 
 const UNIT: u8 = 17;
 const ARCHIVE: usize = 20_000;
@@ -19,14 +20,7 @@ const FLAG: u16 = 1803;
 
 /// A stamp whose second tells scans apart.
 fn at_second(second: u8) -> Stamp {
-    Stamp {
-        month: 8,
-        day: 29,
-        year: 7,
-        hour: 11,
-        minute: 36,
-        second,
-    }
+    Stamp { second, ..AUGUST }
 }
 
 /// A live table of zeros with these Booleans on.

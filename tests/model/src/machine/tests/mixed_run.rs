@@ -5,6 +5,7 @@ use super::*;
 use crate::layout::{file_start, record_bytes};
 
 /// A plain sequence of mixed numbers.
+#[derive(Clone)]
 struct Mixer(u64);
 
 impl Mixer {
@@ -90,4 +91,22 @@ fn a_long_mixed_run() {
         }
     }
     assert!(refusals > 100 && captured > 100);
+}
+
+#[test]
+fn a_machine_taken_as_it_stands_goes_on_as_it_was() {
+    let mut mixer = Mixer(2008);
+    let mut machine = fresh();
+    for _ in 0..40 {
+        let memory = machine.archive_memory();
+        let mut taken = Machine::standing(&machine.raw_state(), machine.remembered(), &memory);
+        for _ in 0..100 {
+            let mut same = mixer.clone();
+            let answer = one_call(&mut machine, &mut mixer);
+            assert_eq!(one_call(&mut taken, &mut same), answer);
+            assert_eq!(taken.raw_state(), machine.raw_state());
+            assert_eq!(taken.remembered(), machine.remembered());
+        }
+        assert_eq!(taken.archive_memory(), machine.archive_memory());
+    }
 }

@@ -207,29 +207,3 @@ fn a_pending_start_sets_every_requested_number_to_0() {
     done(machine.start(ARCHIVE));
     assert_eq!((machine.requested(1), machine.requested(11)), (0, 0));
 }
-
-#[test]
-fn a_standing_state_is_read_back_as_it_stands() {
-    let mut machine = running_with_file_1(4);
-    capture(&mut machine, 6);
-    ask(&mut machine, UNIT, 6, 3703, 3);
-    done(machine.alarm(ARCHIVE, 32, 1928, 3, 7228));
-    let raw = machine.raw_state();
-    let mut standing = Machine::standing(&raw, machine.remembered());
-    assert_eq!(standing.raw_state(), raw);
-    assert_eq!(standing.remembered(), machine.remembered());
-    assert_eq!((standing.pointer(1), standing.requested(1)), (2, 3));
-    done(standing.stop(ARCHIVE));
-    done(standing.unlock(ARCHIVE));
-    done(standing.start(ARCHIVE));
-    assert_eq!((standing.pointer(1), standing.requested(1)), (0, 0));
-    assert_eq!(standing.remembered(), machine.remembered());
-}
-
-#[test]
-#[should_panic(expected = "Foreign")]
-fn a_foreign_state_does_not_stand() {
-    let mut raw = fresh().raw_state();
-    raw.pointers[0] = 1;
-    Machine::standing(&raw, None);
-}

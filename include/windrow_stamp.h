@@ -1,0 +1,20 @@
+/*
+ * windrow_stamp.h: a date and a time, as a scan is given them and as the reading end answers them. windrow_reader.h and
+ * windrow_gateway.h include it.
+ */
+#ifndef WINDROW_STAMP_H
+#define WINDROW_STAMP_H
+
+#include <stdint.h>
+
+/* Month 1-12, day 1-31, year 0-99, hour 0-23, minute and second 0-59, whatever the date order. */
+struct windrow_stamp {
+    uint8_t month;
+    uint8_t day;
+    uint8_t year;
+    uint8_t hour;
+    uint8_t minute;
+    uint8_t second;
+};
+
+#endif

@@ -1,0 +1,170 @@
+//! A list of calls that the library and the model both go through, and the lists of 60 random calls.
+
+use gateway::ffi::{self, State};
+use gateway::states::{archive_length, damage, raw_of, remembered_of, standing, state_of, CLAUSES, ZEROS};
+use model::foreign::foreign;
+use model::layout::ALARM_FILE;
+use model::machine::Machine;
+use reader::random::Random;
+
+use crate::calls::{Call, FRESH};
+use crate::compare::{agree, compare, wanted_of_machine, wanted_of_state, Wanted};
+use crate::sights::{Captured, History, Sight};
+use crate::tally::Tally;
+
+/// The calls of a short list.
+pub const CALLS: usize = 60;
+/// As good as never, where one in so many is asked for.
+pub const NEVER: u64 = u64::MAX;
+
+/// A gateway on both sides: the model's machine, and the state and archive that the library left, which are the same so far.
+pub struct List {
+    machine: Machine,
+    pub state: State,
+    archive: Vec<u8>,
+    history: History,
+}
+
+/// How many captures each file has had.
+fn captures(machine: &Machine) -> Captured {
+    std::array::from_fn(|index| machine.captures(index + 1).len())
+}
+
+/// What was captured since: nothing by any call but a scan.
+fn captured_since(machine: &Machine, before: &Captured, call: &Call) -> Captured {
+    let after = captures(machine);
+    match call {
+        Call::Scan { .. } => std::array::from_fn(|file| after[file] - before[file]),
+        _ => [0; ALARM_FILE],
+    }
+}
+
+/// A length that is mostly the state's, else another: a byte less or more, none, or any.
+fn lent_length(random: &mut Random, right: usize, one_in: u64) -> usize {
+    if !random.chance(one_in) {
+        return right;
+    }
+    match random.below(4) {
+        0 => right.saturating_sub(1),
+        1 => right + 1,
+        2 => 0,
+        _ => random.below(14_000) as usize,
+    }
+}
+
+/// The archive as it is lent: its own bytes where they reach, random ones past them.
+fn lent(random: &mut Random, archive: &[u8], length: usize) -> Vec<u8> {
+    let mut bytes = archive[..length.min(archive.len())].to_vec();
+    let more = length - bytes.len();
+    bytes.extend(random.bytes(more));
+    bytes
+}
+
+impl List {
+    /// Fresh over random bytes.
+    pub fn fresh(random: &mut Random, tally: &mut Tally, length: usize, unit: u8) -> Result<List, String> {
+        let day_first = random.chance(2);
+        let mut archive = random.bytes(length);
+        let (told, machine) = Machine::fresh(length, day_first, unit);
+        let left = if told.is_done() { machine.archive_memory() } else { archive.clone() };
+        let wanted = Wanted { told, state: state_of(&machine.raw_state(), None, &ZEROS), archive: left };
+        let got = ffi::fresh(day_first, unit, &mut archive);
+        tally.answers[FRESH][told.number as usize] += 1;
+        compare(&wanted, &got, &archive).map_err(|text| format!("Fresh({day_first}, {unit}, {length} bytes)\n{text}"))?;
+        // what a refused Fresh leaves has no archive
+        archive.truncate(got.state.site.archive as usize);
+        Ok(List { machine, state: got.state, archive, history: History::default() })
+    }
+
+    /// A state that is not Foreign, over random bytes.
+    pub fn standing(random: &mut Random, state: State) -> List {
+        let archive = random.bytes(state.site.archive as usize);
+        let machine = Machine::standing(&raw_of(&state), remembered_of(&state), &archive);
+        List { machine, state, archive, history: History::of_standing() }
+    }
+
+    /// One call on both sides, one in so many with an archive of another length.
+    pub fn call(&mut self, random: &mut Random, tally: &mut Tally, call: &Call, other_length: u64) -> Result<(), String> {
+        let length = lent_length(random, self.archive.len(), other_length);
+        let lent = lent(random, &self.archive, length);
+        let captures_before = captures(&self.machine);
+        let wanted = wanted_of_machine(&mut self.machine, &self.state, call, &lent);
+        agree(&wanted, &self.state, call, &lent)
+            .map_err(|text| format!("{length} bytes lent, {call:?}\n{text}\nstate {:?}", self.state))?;
+        tally.count(call, &wanted, &lent);
+        if wanted.told.is_done() {
+            let captured = captured_since(&self.machine, &captures_before, call);
+            if let Call::Scan { table, stamp } = call {
+                tally.scanned(&Sight::new(&self.state, &table.0, *stamp, captured, &self.history));
+            }
+            self.history.note(&self.state, call, &captured);
+            tally.most_rounds = tally.most_rounds.max(self.history.most_rounds());
+            self.state = wanted.state;
+            self.archive = wanted.archive;
+        }
+        Ok(())
+    }
+
+    /// One damaged copy of the state, handed to a random call.
+    pub fn try_damaged(&self, random: &mut Random, tally: &mut Tally) -> Result<(), String> {
+        let s = &self.state;
+        let mut hurt = *s;
+        let clause = random.below(CLAUSES.len() as u64) as usize;
+        damage(random, &mut hurt, clause);
+        let was_valid = !foreign(&raw_of(s));
+        if was_valid {
+            tally.clauses[clause][usize::from(!foreign(&raw_of(&hurt)))] += 1;
+        }
+        if random.chance(8) {
+            let second = random.below(CLAUSES.len() as u64) as usize;
+            damage(random, &mut hurt, second);
+        }
+        let call = Call::random(random, s);
+        let length = lent_length(random, hurt.site.archive as usize, 5);
+        let lent = lent(random, &self.archive, length);
+        let wanted = wanted_of_state(&hurt, &call, &lent);
+        if was_valid && foreign(&raw_of(&hurt)) {
+            let undamaged = wanted_of_state(s, &call, &self.archive);
+            tally.count_foreign(&wanted, &undamaged);
+        }
+        tally.count(&call, &wanted, &lent);
+        agree(&wanted, &hurt, &call, &lent)
+            .map_err(|text| format!("damaged ({}), {length} bytes lent, {call:?}\n{text}\nstate {hurt:?}", CLAUSES[clause]))
+    }
+
+    /// After a list: the archive is the one that the model works out.
+    pub fn end(&self) -> Result<(), String> {
+        if self.archive == self.machine.archive_memory() {
+            Ok(())
+        } else {
+            Err("after the list: archive memory is not the model's".to_string())
+        }
+    }
+}
+
+/// Fresh, mostly with a length and a unit that it takes.
+fn any_fresh(random: &mut Random, tally: &mut Tally) -> Result<List, String> {
+    const LENGTHS: [usize; 6] = [0, 10_999, 11_000, 1_048_576, 1_048_577, 65_536 + 10_000];
+    let length = if random.chance(12) { LENGTHS[random.below(6) as usize] } else { archive_length(random) };
+    let unit = if random.chance(12) { [0, 248, 249, 255] } else { [1, 247, 17, 128] }[random.below(4) as usize];
+    List::fresh(random, tally, length, unit)
+}
+
+/// A list of random calls, after Fresh or on a state that is not Foreign over random bytes; between them damaged copies of the
+/// state are handed in.
+pub fn short_list(random: &mut Random, tally: &mut Tally) -> Result<(), String> {
+    let mut list = if random.chance(2) {
+        any_fresh(random, tally)?
+    } else {
+        let state = standing(random);
+        List::standing(random, state)
+    };
+    for number in 1..=CALLS {
+        if random.chance(3) {
+            list.try_damaged(random, tally).map_err(|text| format!("before call {number}: {text}"))?;
+        }
+        let call = Call::random(random, &list.state);
+        list.call(random, tally, &call, 16).map_err(|text| format!("call {number}: {text}"))?;
+    }
+    list.end()
+}

@@ -1,0 +1,129 @@
+//! Long runs: thousands of scans, with stops and starts, moved triggers and refused scans among them, on files that go round many
+//! times.
+
+use gateway::ffi::State;
+use gateway::states::{boolean_or_none, float_or_none, good_groups, standing};
+use model::layout::USER_FILES;
+use model::machine::{LEAST_ARCHIVE, SLOTS};
+use model::points::record_size;
+use reader::random::Random;
+
+use crate::calls::Call;
+use crate::lists::{List, NEVER};
+use crate::tally::Tally;
+
+/// The calls of a long run, but for those that lay out its files.
+pub const CALLS: usize = 4_000;
+/// The most bytes that files 1 to 10 are given.
+const MOST_FOR_FILES: u64 = 12_000;
+/// The calls between two layouts, on the average.
+const CALLS_A_LAYOUT: u64 = 800;
+
+/// A number of records that has room: mostly few, now and then all that there is room for, or none.
+fn few_records(random: &mut Random, room: u64) -> u64 {
+    let n = match random.below(20) {
+        0..=1 => 0,
+        2..=6 => 1,
+        7..=9 => 2,
+        10..=18 => 1 + random.below(9),
+        _ => room,
+    };
+    n.min(room)
+}
+
+/// The ten files defined, in what the archive has for them.
+fn definitions(random: &mut Random, archive: usize) -> Vec<Call> {
+    let mut left = (archive - LEAST_ARCHIVE) as u64;
+    let mut calls = Vec::new();
+    for file in 1..=USER_FILES as u32 {
+        let groups = good_groups(random);
+        let size = record_size(&groups) as u64;
+        let limit = few_records(random, (left / size).min(65_535));
+        left -= limit * size;
+        calls.push(Call::Define { file, groups, limit: limit as u16 });
+    }
+    calls
+}
+
+/// Triggers and alarm slots on a handful of points, so that several share one.
+fn settings(random: &mut Random) -> Vec<Call> {
+    let points: [u16; 6] = std::array::from_fn(|_| boolean_or_none(random));
+    let one_of = |random: &mut Random| points[random.below(6) as usize];
+    let mut calls = Vec::new();
+    for file in 1..=USER_FILES as u32 {
+        calls.push(Call::Trigger { file, point: one_of(random) });
+    }
+    for slot in 1..=SLOTS as u32 {
+        let point = if random.chance(3) { boolean_or_none(random) } else { one_of(random) };
+        calls.push(Call::Alarm { slot, point, kind: random.below(4) as u8, transducer: float_or_none(random) });
+    }
+    calls
+}
+
+/// Files laid out anew, with triggers and slots.
+fn new_layout(random: &mut Random, archive: usize) -> Vec<Call> {
+    let mut calls = vec![Call::Stop, Call::Unlock];
+    calls.extend(definitions(random, archive));
+    calls.extend(settings(random));
+    calls.push(Call::Start);
+    calls
+}
+
+/// A file's trigger moved to another file's, or to any Boolean.
+fn moved_trigger(random: &mut Random, s: &State) -> Call {
+    let file = 1 + random.below(10) as u32;
+    let point = if random.chance(2) { s.triggers[random.below(10) as usize] } else { boolean_or_none(random) };
+    Call::Trigger { file, point }
+}
+
+fn changed_slot(random: &mut Random) -> Call {
+    let slot = 1 + random.below(32) as u32;
+    Call::Alarm { slot, point: boolean_or_none(random), kind: random.below(4) as u8, transducer: float_or_none(random) }
+}
+
+/// Mostly a scan. A gateway that was stopped is started again after about ten.
+fn next_call(random: &mut Random, s: &State) -> Call {
+    match random.below(40) {
+        0 => moved_trigger(random, s),
+        1 => changed_slot(random),
+        2 => Call::Stop,
+        3..=6 if !s.running => Call::Start,
+        _ => Call::scan(random, s),
+    }
+}
+
+/// A state as small as those that `definitions` makes.
+fn small_standing(random: &mut Random) -> State {
+    loop {
+        let state = standing(random);
+        if u64::from(state.site.archive) <= LEAST_ARCHIVE as u64 + MOST_FOR_FILES {
+            return state;
+        }
+    }
+}
+
+/// A run after Fresh, or one in four on a state that is not Foreign over random bytes.
+pub fn long_run(random: &mut Random, tally: &mut Tally) -> Result<(), String> {
+    let (mut list, mut ahead) = if random.chance(4) {
+        let state = small_standing(random);
+        (List::standing(random, state), Vec::new())
+    } else {
+        let archive = LEAST_ARCHIVE + random.below(MOST_FOR_FILES + 1) as usize;
+        let unit = 1 + random.below(247) as u8;
+        (List::fresh(random, tally, archive, unit)?, new_layout(random, archive))
+    };
+    for number in 1..=CALLS {
+        if random.chance(CALLS_A_LAYOUT) {
+            ahead = new_layout(random, list.state.site.archive as usize);
+        }
+        for call in ahead.drain(..) {
+            list.call(random, tally, &call, NEVER).map_err(|text| format!("laying out before call {number}: {text}"))?;
+        }
+        if random.chance(40) {
+            list.try_damaged(random, tally).map_err(|text| format!("before call {number}: {text}"))?;
+        }
+        let call = next_call(random, &list.state);
+        list.call(random, tally, &call, 64).map_err(|text| format!("call {number}: {text}"))?;
+    }
+    list.end()
+}

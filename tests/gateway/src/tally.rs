@@ -1,0 +1,108 @@
+//! What a run has seen, and what it should have.
+
+use gateway::states::CLAUSES;
+use model::card::{FOREIGN, MEMORY, TABLE};
+
+use crate::calls::{Call, NAMES};
+use crate::compare::Wanted;
+use crate::sights::{Sight, SIGHTS};
+
+/// The numbers that each call of NAMES is to answer.
+const NUMBERS: [&[usize]; NAMES.len()] = [
+    &[0, 1, 2, 10],
+    &[0, 1, 2],
+    &[0, 1, 2],
+    &[0, 1, 2, 11],
+    &[0, 1, 2, 5, 6, 7, 8],
+    &[0, 1, 2, 5, 9],
+    &[0, 1, 2, 12],
+    &[0, 1, 2, 3, 4],
+    &[0, 1, 2],
+];
+
+/// How often each of SIGHTS is to be seen, and a file is to go round in one list.
+const OFTEN_ENOUGH: usize = 5;
+const MANY_ROUNDS: usize = 50;
+
+#[derive(Default)]
+pub struct Tally {
+    /// How often each call answered each number.
+    pub answers: [[u32; 17]; NAMES.len()],
+    /// How often each clause by itself was Foreign, and was not.
+    pub clauses: [[u32; 2]; CLAUSES.len()],
+    /// Of the Foreign states: handed in with another length too, and to a call that had a refusal of its own.
+    foreign_and_memory: u32,
+    foreign_and_bad: u32,
+    /// Scans with a table of another length and a stamp out of range.
+    table_and_clock: u32,
+    zeroed: u32,
+    sights: [usize; SIGHTS.len()],
+    /// How often the file that went round most in one list did so.
+    pub most_rounds: usize,
+}
+
+impl Tally {
+    pub fn count(&mut self, call: &Call, wanted: &Wanted, lent: &[u8]) {
+        let number = wanted.told.number;
+        self.answers[call.kind()][number as usize] += 1;
+        match call {
+            Call::Start => self.zeroed += u32::from(wanted.archive != lent),
+            Call::Scan { stamp, .. } => self.table_and_clock += u32::from(number == TABLE && !stamp.in_range()),
+            _ => {}
+        }
+    }
+
+    /// A call on a damaged state that is Foreign, and what the call answers on the state before the damage.
+    pub fn count_foreign(&mut self, wanted: &Wanted, undamaged: &Wanted) {
+        self.foreign_and_memory += u32::from(wanted.told.number == MEMORY);
+        self.foreign_and_bad += u32::from(wanted.told.number == FOREIGN && undamaged.told.number > FOREIGN);
+    }
+
+    pub fn scanned(&mut self, sight: &Sight) {
+        for (seen, (_, how_often)) in self.sights.iter_mut().zip(SIGHTS) {
+            *seen += how_often(sight);
+        }
+    }
+
+    /// What was hardly seen, of all that a whole run should see.
+    pub fn hardly_seen(&self) -> Vec<String> {
+        let mut seldom = Vec::new();
+        for (kind, numbers) in NUMBERS.iter().enumerate() {
+            for &number in numbers.iter().filter(|&&number| self.answers[kind][number] < 20) {
+                seldom.push(format!("{} answering {number}", NAMES[kind]));
+            }
+        }
+        let clauses = CLAUSES.iter().zip(&self.clauses).filter(|(_, seen)| seen[0] < 100);
+        seldom.extend(clauses.map(|(name, _)| format!("Foreign by {name}")));
+        let counted = [
+            ("Foreign with another length", self.foreign_and_memory),
+            ("Foreign with a bad argument", self.foreign_and_bad),
+            ("Table with a stamp out of range", self.table_and_clock),
+            ("a Start that zeroes bytes", self.zeroed),
+        ];
+        seldom.extend(counted.iter().filter(|(_, seen)| *seen < 100).map(|(name, _)| name.to_string()));
+        let sights = SIGHTS.iter().zip(&self.sights).filter(|(_, &seen)| seen < OFTEN_ENOUGH);
+        seldom.extend(sights.map(|((name, _), _)| name.to_string()));
+        if self.most_rounds < MANY_ROUNDS {
+            seldom.push("a file that goes round many times".to_string());
+        }
+        seldom
+    }
+
+    pub fn print(&self) {
+        for (name, seen) in NAMES.iter().zip(&self.answers) {
+            let numbers: Vec<String> =
+                seen.iter().enumerate().filter(|(_, &n)| n > 0).map(|(number, n)| format!("{number}: {n}")).collect();
+            println!("{name} answered {}", numbers.join(", "));
+        }
+        for (name, seen) in CLAUSES.iter().zip(&self.clauses) {
+            println!("{name}: Foreign {}, not {}", seen[0], seen[1]);
+        }
+        println!("Foreign with another length {}, with a bad argument {}", self.foreign_and_memory, self.foreign_and_bad);
+        println!("Table with a stamp out of range {}; Starts that zeroed bytes {}", self.table_and_clock, self.zeroed);
+        for ((name, _), seen) in SIGHTS.iter().zip(&self.sights) {
+            println!("{name}: {seen}");
+        }
+        println!("one file went round {} times in one list", self.most_rounds);
+    }
+}
