@@ -57,14 +57,14 @@ const MIXED: [u16; 32] = [
     0,
 ];
 
-// The live table: byte i is the lowest eight bits of 37 i + 11.
+// The live table: byte i is 37 i + 11 modulo 251, which is prime, so that no two rows start alike.
 fn live_table() -> [u8; 1424]
     ensures { λ r. ⌜ length r ≡ tableBytes ⌝ }
 {
     let mut table = [0u8; 1424];
     let mut i: usize = 0;
     while i < 1424 {
-        table[i] = ((i * 37 + 11) % 256) as u8;
+        table[i] = ((i * 37 + 11) % 251) as u8;
         i += 1;
     }
     table

@@ -52,7 +52,7 @@ const fn slot(point: u16, kind: u8, float: u16) -> Slot {
 
 fn live_table() -> Vec<u8> {
     (0..TABLE_BYTES)
-        .map(|i| ((i * 37 + 11) % 256) as u8)
+        .map(|i| ((i * 37 + 11) % 251) as u8)
         .collect()
 }
 
