@@ -13,9 +13,9 @@
 --     part-here                         the part that was pasted reads as it was written
 --     rest-lent, rest-back              the same for all of a list behind its first k
 --     zero-at                           a list of zeros has 0 at every place
-use mathlib.Core.Path.{_≡_, refl, sym, ap, _∙_, subst}
+use mathlib.Core.Path.{_≡_, refl, sym, ap, _∙_}
 use mathlib.Core.List.{List, [], _∷_, _++_, map, append-nil, append-assoc}
-use mathlib.Core.Bool.{Bool, true, false, _&&_}
+use mathlib.Core.Bool.{true}
 use mathlib.Core.Logic.{⊎-elim}
 use Prim.Native.Nat.{ℕ, zero, suc, _+_, _-_, _≤_, _<_, min}
 use native.Mathlib.Nat.{not-suc-le-zero, eq-or-lt-of-le, le-of-suc-le-suc, add-assoc, zero-add}

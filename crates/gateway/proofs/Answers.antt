@@ -1,20 +1,18 @@
 -- Laws of the calls' answers. Assumes nothing.
 --     refused-first    the state's own number, Memory (1) or Foreign (2), is answered before what the call itself would answer
 --     within-inside    what a range test that holds gives
---     fresh-size       the length that Fresh takes has 32 bits
+--     fresh-parts      the length and the unit that Fresh takes
 --     own-next         where neither applies, the call's own answer stands
 use mathlib.Core.Path.{_≡_, refl, sym, _∙_}
 use Prim.Native.Nat.{ℕ, _≤_}
-use mathlib.Core.Bool.{Bool, true, false, cond, not, _&&_}
+use mathlib.Core.Bool.{Bool, true, false, cond, not}
 use native.Mathlib.Omega.{arith}
 use borrow.Author.Tests.{ne-eqb, leb-true}
-use lib.Dec.{leb, eqb}
+use lib.Dec.{leb}
 use Rattle.basics.specs.Numbers.{within}
 use Rattle.basics.proofs.Tests.{and-left, and-right}
 use Rattle.gateway.specs.declared.state.State.{State}
 use Rattle.gateway.specs.declared.calls.Answer.{Answer}
-use Rattle.archive.specs.Layout.{goodFiles}
-use Rattle.gateway.specs.Validity.{goodTriggers, goodSlots, settingsValid, archiveValid, valid}
 use Rattle.gateway.specs.Calls.{stateNumber, told, settled, freshNumber}
 
 pub refused-first : (s : State) (size n : ℕ) (own : Answer) → n ≡ stateNumber s size → (n ≡ 0 → ⊥) → told s n 0 ≡ settled s size own
@@ -26,10 +24,11 @@ own-next s size n own is none = simp (sym is ∙ none)
 pub within-inside : (lo hi x : ℕ) → within lo hi x ≡ true → (lo ≤ x) × (x ≤ hi)
 within-inside lo hi x holds = (leb-true lo x (and-left (leb lo x) (leb x hi) holds), leb-true x hi (and-right (leb lo x) (leb x hi) holds))
 
-pub fresh-size : (unit size n : ℕ) → n ≡ freshNumber unit size → n ≡ 0 → size ≤ 1048576
+pub fresh-parts : (unit size : ℕ) → freshNumber unit size ≡ 0 → (within 11000 1048576 size ≡ true) × (within 1 247 unit ≡ true)
 unfolding freshNumber
-fresh-size unit size n is none = go (within 11000 1048576 size) refl (sym is ∙ none)
+fresh-parts unit size taken = go (within 11000 1048576 size) (within 1 247 unit) taken
   where
-    go : (b : Bool) → within 11000 1048576 size ≡ b → _≡_ {A = ℕ} (cond (not b) 1 (cond (not (within 1 247 unit)) 2 0)) 0 → size ≤ 1048576
-    go false t q = absurd (omega (arith, q))
-    go true t q = within-inside 11000 1048576 size t .1
+    go : (a b : Bool) → _≡_ {A = ℕ} (cond (not a) 1 (cond (not b) 2 0)) 0 → (a ≡ true) × (b ≡ true)
+    go false b q = absurd (omega (arith, q))
+    go true false q = absurd (omega (arith, q))
+    go true true q = (refl, refl)

@@ -3,25 +3,23 @@
 --     fresh-valid     what Fresh leaves
 use mathlib.Core.Path.{_≡_, refl, ap, _∙_}
 use mathlib.Core.List.{List}
-use mathlib.Core.Bool.{Bool, true, false, cond, not, _&&_}
+use mathlib.Core.Bool.{Bool, true, false, not, _&&_}
 use Prim.Native.Nat.{ℕ, _-_, _≤_}
 use native.Mathlib.Omega.{arith}
 use borrow.Author.Tests.{le-leb}
 use lib.Dec.{leb}
 use lib.ListN.{getD, set, replicate, getD-replicate}
-use Rattle.basics.specs.Numbers.{within}
-use Rattle.basics.proofs.Tests.{and-left, and-right}
 use Rattle.gateway.specs.declared.state.State.{State}
 use Rattle.archive.specs.declared.alarms.Slot.{Slot}
 use Rattle.gateway.specs.declared.calls.Answer.{Answer}
 use Rattle.archive.specs.Layout.{every, isGood, goodFiles, fileSize, base, layoutSize, hasRoom}
 use Rattle.archive.specs.Alarms.{offSlot}
 use Rattle.gateway.specs.State.{freshState, withFlags, withDraft, withTriggers, withSlots, laidOut}
-use Rattle.gateway.specs.Validity.{goodTriggers, goodSlot, goodSlotAt, goodSlots, withinFiles, withinLimits, archiveValid, settingsValid, valid}
+use Rattle.gateway.specs.Validity.{goodTriggers, goodSlot, goodSlotAt, goodSlots, withinFiles, withinLimits, valid}
 use Rattle.gateway.specs.Calls.{told, unlockAnswer, lockAnswer, stopAnswer, triggerAnswer, alarmAnswer, drafted, defineAnswer, freshNumber, startAnswer}
 use Rattle.points.specs.Table.{floatOrNone, booleanOrNone}
 use Rattle.points.specs.Groups.{judgedCard, firstBad, recordSize, groupsSize, groupOf, unused}
-use Rattle.gateway.proofs.Answers.{within-inside}
+use Rattle.gateway.proofs.Answers.{within-inside, fresh-parts}
 use Rattle.gateway.proofs.Clauses.{valid-split, valid-join}
 use Rattle.gateway.proofs.Drafts.{drafts-stay-good}
 use Rattle.archive.proofs.Laws.{every-at, every-all, set-holds}
@@ -75,15 +73,6 @@ no-slots = refl
 idle-fits : (size : ℕ) → 11000 ≤ size → hasRoom (replicate 320 0) (replicate 10 0) size ≡ true
 unfolding hasRoom layoutSize base fileSize recordSize groupsSize groupOf unused
 idle-fits size long = le-leb 11000 size long
-
-fresh-parts : (unit size : ℕ) → freshNumber unit size ≡ 0 → (within 11000 1048576 size ≡ true) × (within 1 247 unit ≡ true)
-unfolding freshNumber
-fresh-parts unit size taken = go (within 11000 1048576 size) (within 1 247 unit) taken
-  where
-    go : (a b : Bool) → _≡_ {A = ℕ} (cond (not a) 1 (cond (not b) 2 0)) 0 → (a ≡ true) × (b ≡ true)
-    go false b q = absurd (omega (arith, q))
-    go true false q = absurd (omega (arith, q))
-    go true true q = (refl, refl)
 
 -- ---- the calls
 -- the answer's state is valid if the one given is

@@ -1,8 +1,8 @@
 -- Document 01, row 2 of the service card: what makes a state Foreign.
 use mathlib.Core.List.{List}
-use mathlib.Core.Bool.{Bool, true, false, not, _&&_, _||_}
+use mathlib.Core.Bool.{Bool, not, _&&_}
 use Prim.Native.Nat.{ℕ}
-use lib.Dec.{eqb, leb}
+use lib.Dec.{leb}
 use lib.ListN.{getD}
 use Rattle.basics.specs.Numbers.{within}
 use Rattle.points.specs.Table.{booleanOrNone, floatOrNone}

@@ -3,10 +3,10 @@
 --     last-two         the last two numbers of a list
 --     framed-checks    a list followed by its CRC, low byte first, ends in its CRC
 --     word-read-back   a word written at any place of a list reads back
-use mathlib.Core.Path.{_≡_, refl, sym, ap, _∙_, subst}
+use mathlib.Core.Path.{_≡_, sym, ap, _∙_}
 use mathlib.Core.List.{List, [], _∷_, _++_, append-assoc}
-use mathlib.Core.Bool.{Bool, true, false, cond, _&&_}
-use Prim.Native.Nat.{ℕ, zero, suc, _+_, _-_, _*_, _/_, _%_, _^_, _≤_, _<_}
+use mathlib.Core.Bool.{Bool, true, false, cond}
+use Prim.Native.Nat.{ℕ, zero, suc, _+_, _-_, _/_, _%_, _^_, _≤_, _<_}
 use native.Mathlib.Nat.{div-add-mod'}
 use native.Mathlib.Omega.{arith}
 use borrow.Author.Tests.{le-leb}
@@ -14,7 +14,7 @@ use lib.Dec.{eqb, leb, lit<}
 use lib.Bits.{bitXor, xor-lt}
 use lib.ListN.{length, getD, take, drop, length-append}
 use lib.Seq.{drop-cons, drop-length, getD-at, length-take-le, take-append-seam, drop-append-seam}
-use Rattle.basics.specs.Lists.{same, pasted}
+use Rattle.basics.specs.Lists.{pasted}
 use Rattle.basics.proofs.Tests.{eqb-same}
 use Rattle.modbus.specs.Crc.{crcShift, crcShifts, crcByte, crcFrom, crcOf, crcBytes, withCrc, endsInCrc}
 use Rattle.modbus.specs.Word.{wordAt, wordBytes}

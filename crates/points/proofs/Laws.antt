@@ -5,7 +5,7 @@
 --     group-size-small     a group adds at most the live table's bytes
 use mathlib.Core.Path.{_≡_, refl, sym, ap, _∙_, subst}
 use mathlib.Core.List.{List, [], _∷_}
-use mathlib.Core.Bool.{Bool, true, false, cond, not, _&&_, _||_, false≢true}
+use mathlib.Core.Bool.{Bool, true, false, cond, not, _&&_, false≢true}
 use Prim.Native.Nat.{ℕ, zero, suc, _+_, _-_, _*_, _/_, _≤_, _<_}
 use native.Mathlib.Nat.{mul-le-mul-right, add-mul, le-refl}
 use native.Mathlib.Omega.{arith}
@@ -23,9 +23,9 @@ use Rattle.points.specs.declared.table.Found.{Found}
 use Rattle.points.specs.declared.table.Found.the-variants.{In, Nowhere}
 use Rattle.points.specs.declared.groups.Group.{Group}
 use Rattle.points.specs.declared.groups.Group.the-variants.{Unused, Points, Bad}
-use Rattle.points.specs.Table.{tableBytes, isBits, rows, inRow, rowIn, rowOf, pointsSize, kindSize, booleanRow, booleanPoint, booleanPoints, isBoolean, inBooleans, booleanOrNone, isFloat, inFloats, floatOrNone}
+use Rattle.points.specs.Table.{tableBytes, rows, inRow, rowIn, rowOf, pointsSize, kindSize, booleanRow, booleanPoint, booleanPoints, isBoolean, inBooleans, booleanOrNone, isFloat, inFloats, floatOrNone}
 use Rattle.points.specs.Groups.{unused, endsInRow, pointsFrom, groupOf, groupSize, isBad, firstPointAt, countAt, groupAt, groupsSize, firstBad, recordSize, judgedCard}
-use Rattle.points.specs.Card.{Card, card}
+use Rattle.points.specs.Card.{card}
 
 pub row-here : (rs : List Row) (i p : ℕ) (d : Row) → i < length rs → inRow (getD rs i d) p ≡ true → rowIn (drop i rs) p ≡ In (getD rs i d)
 unfolding rowIn

@@ -6,8 +6,8 @@
 --     stretch-good     what a place is whose stretch is not refused
 use mathlib.Core.Path.{_≡_, refl, sym, ap, ap₂, _∙_, subst}
 use mathlib.Core.List.{List, [], _∷_}
-use mathlib.Core.Bool.{Bool, true, false, cond, _&&_}
-use Prim.Native.Nat.{ℕ, _+_, _-_, _*_, _≤_, _<_}
+use mathlib.Core.Bool.{Bool, true, false, cond}
+use Prim.Native.Nat.{ℕ, _+_, _-_, _*_, _≤_}
 use native.Mathlib.Nat.{add-zero, mul-le-mul-right}
 use native.Mathlib.Omega.{arith}
 use borrow.Author.Tests.{eqb-true, eqb-false, leb-true, le-leb}
@@ -18,13 +18,11 @@ use Rattle.basics.specs.Numbers.{within}
 use Rattle.basics.proofs.Tests.{and-left, and-right}
 use Rattle.basics.specs.Lists.{tabulate}
 use Rattle.basics.proofs.Lists.{length-part, part-tabulate}
-use Rattle.modbus.specs.Crc.{endsInCrc}
 use Rattle.modbus.specs.Word.{numberOf, wordAt}
 use Rattle.points.specs.declared.table.Kind.{Kind}
 use Rattle.points.specs.Table.{isBits, flagAt, packedSize, pointsSize, kindSize}
 use Rattle.points.specs.declared.table.Row.{Row}
-use Rattle.points.specs.declared.groups.Group.{Group}
-use Rattle.points.specs.declared.groups.Group.the-variants.{Unused, Points, Bad}
+use Rattle.points.specs.declared.groups.Group.the-variants.{Unused, Points}
 use Rattle.points.specs.Card.{Card, card}
 use Rattle.points.specs.Groups.{judgedCard, groupOf, groupAt, groupSize, groupsSize, recordSize}
 use Rattle.points.proofs.Laws.{GoodDefinition, judged-good, group-inside, lookup-size, groups-size-next, groups-size-mono}

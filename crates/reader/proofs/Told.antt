@@ -2,7 +2,7 @@
 --     numbers-tell     the theorem, for every value that a point can have
 use mathlib.Core.Path.{_≡_, refl, ap, _∙_}
 use mathlib.Core.Bool.{Bool, true, false, cond}
-use Prim.Native.Nat.{ℕ, _-_, _^_}
+use Prim.Native.Nat.{_-_, _^_}
 use native.Mathlib.Omega.{arith}
 use borrow.Author.Tests.{ltb-true, le-ltb}
 use lib.Dec.{eqb, ltb}

@@ -2,7 +2,7 @@
 -- gs is the list of group numbers, of any length; d says whether the day stands first; f is the reply frame, of any bytes.
 use mathlib.Core.List.{List, []}
 use mathlib.Core.Bool.{Bool, true, false, cond, _&&_}
-use Prim.Native.Nat.{ℕ, _+_, _-_, _*_}
+use Prim.Native.Nat.{ℕ, _+_, _-_}
 use lib.Dec.{eqb}
 use lib.ListN.{length, getD, take, drop}
 use Rattle.basics.specs.Lists.{allZero}

@@ -1,8 +1,6 @@
 // Writes one record two million times, for tests/bench to time beside plain Rust. Standard input says which: 'f' is 61 floats, a
 // record of 250 bytes; anything else is the 127 Booleans from 1802 on, which stand one bit off the table's bytes. It prints the sum
 // of one byte of each record, so that no write is idle; tests/bench/expected.py works out the sum apart from it.
-ghost use mathlib.Core.Path.{_≡_};
-ghost use lib.ListN.{length};
 ghost use Rattle.points.specs.Groups.{recordSize};
 ghost use Rattle.records.specs.Lent.{LentDefinition};
 use points::Judged;

@@ -5,7 +5,7 @@
 --     mask-of          one less than a one shifted by m is the mask of m bits
 --     packed-window    a packed byte is the window of up to eight Booleans that starts at it
 --     window-bit       bit j of two joined bytes shifted right is the flag that stands there in the table
-use mathlib.Core.Path.{_≡_, refl, sym, ap, _∙_}
+use mathlib.Core.Path.{_≡_, sym, ap, _∙_}
 use mathlib.Core.List.{List, [], _∷_, _++_}
 use mathlib.Core.Logic.{⊎-elim}
 use Prim.Native.Nat.{ℕ, zero, suc, _+_, _-_, _*_, _/_, _%_, _^_, _≤_, _<_, min}

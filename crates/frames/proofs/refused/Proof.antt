@@ -1,6 +1,5 @@
 -- `frames::refused` is safe: the n bytes are in the array. Assumes nothing.
 use mathlib.Core.Path.{sym}
-use native.Mathlib.Omega.{arith}
 use borrow.Author.Needs.{needs}
 use lib.Seq.{length-take-le}
 use Rattle.frames.proofs.refused.Statement.{statement}

@@ -2,10 +2,11 @@
 use mathlib.Core.Path.{ap₂, _∙_, sym, ap}
 use Prim.Native.Nat.{_-_}
 use native.Mathlib.Omega.{arith}
+use lib.ListN.{length}
 use borrow.Author.Needs.{needs}
 use borrow.Author.Tests.{ne-eqb}
 use Rattle.gateway.specs.Calls.{told, freshAnswer, freshMemory}
-use Rattle.gateway.proofs.Answers.{fresh-size}
+use Rattle.gateway.proofs.Answers.{within-inside, fresh-parts}
 use Rattle.gateway.proofs.files.windrow_gateway_fresh.Statement.{statement}
 use Rattle.gateway.proofs.files.windrow_gateway_fresh.Tie as tie
 
@@ -28,7 +29,11 @@ clear-requires : tie.Need-clear-requires
 clear-requires c κs = search needs
 
 cast-fresh-state : tie.Need-cast-fresh-state
-cast-fresh-state c = let size = fresh-size _ _ _ (c .before .before .before .before .before .fresh-number .ensures) (c .before .before .before .before .if1 .left) in omega (arith, size)
+cast-fresh-state c =
+    let a = c .before .before .before .before .before .before .before .args in
+    let accepted = c .before .before .before .before in
+    let taken = fresh-parts (a .unit) (length (a .archive .now)) (sym (accepted .before .fresh-number .ensures) ∙ accepted .if1 .left) in
+    omega (arith, within-inside 11000 1048576 (length (a .archive .now)) (taken .0))
 
 fresh-state-requires-2 : tie.Need-fresh-state-requires-2
 fresh-state-requires-2 c κs = search needs
