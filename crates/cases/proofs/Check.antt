@@ -12,7 +12,7 @@ use Rattle.archive.specs.Layout.{every, isGood, goodFiles, fileSize, base, layo
 use Rattle.archive.specs.Ring.{slotAfter, captured, capturedAll, pointerAfter, recordAfter}
 use Rattle.archive.specs.Booleans.{isOn}
 use Rattle.archive.specs.Captures.{captures, fileScanned, filesScanned}
-use Rattle.archive.specs.Alarms.{logs, alarmsAt, alarmsFrom, alarmsInOrder, withAlarm, logged, alarmsScanned}
+use Rattle.archive.specs.Alarms.{logs, alarmsAt, alarmsFrom, alarmsInOrder, logged, alarmsScanned}
 use Rattle.gateway.specs.State.{freshState}
 use Rattle.gateway.specs.Validity.{goodTriggers, goodSlot, goodSlots, withinFiles, withinLimits, archiveValid, settingsValid, valid}
 use Rattle.gateway.specs.Calls.{stateNumber, unlockAnswer, triggerAnswer, definitionAnswer, defineAnswer, startAnswer, freshNumber, freshAnswer}
@@ -20,5 +20,5 @@ use Rattle.gateway.specs.Scan.{scanNumber, archiveScanned, archiveLeft, scanAns
 use Rattle.cases.specs.Marked.{marked, allHold}
 
 pub marked-cases-hold : allHold marked ≡ true
-unfolding marked judgedCard recordSize groupsSize firstBad groupOf unused endsInRow pointsSize rowOf rowIn inRow rows tabulate stampBytes flags fromBits packedByte capturedByte capturedPoints bytesInTable valueInTable floatOrNone every isGood goodFiles fileSize base layoutSize hasRoom freshState booleanOrNone goodTriggers goodSlot goodSlots withinFiles withinLimits archiveValid settingsValid valid stateNumber unlockAnswer definitionAnswer defineAnswer startAnswer freshNumber freshAnswer triggerAnswer slotAfter captured capturedAll pointerAfter recordAfter isOn captures fileScanned filesScanned logs alarmsAt alarmsFrom alarmsInOrder withAlarm logged alarmsScanned dateInRange timeInRange inRange capturedGroups recordOf scanNumber archiveScanned archiveLeft scanAnswer scanMemory
+unfolding marked judgedCard recordSize groupsSize firstBad groupOf unused endsInRow pointsSize rowOf rowIn inRow rows tabulate stampBytes flags fromBits packedByte capturedByte capturedPoints bytesInTable valueInTable floatOrNone every isGood goodFiles fileSize base layoutSize hasRoom freshState booleanOrNone goodTriggers goodSlot goodSlots withinFiles withinLimits archiveValid settingsValid valid stateNumber unlockAnswer definitionAnswer defineAnswer startAnswer freshNumber freshAnswer triggerAnswer slotAfter captured capturedAll pointerAfter recordAfter isOn captures fileScanned filesScanned logs alarmsAt alarmsFrom alarmsInOrder logged alarmsScanned dateInRange timeInRange inRange capturedGroups recordOf scanNumber archiveScanned archiveLeft scanAnswer scanMemory
 marked-cases-hold = refl

@@ -1,4 +1,4 @@
--- Document 01, "Marked cases and known blunders": the marked cases of the crates that exist so far, one list.
+-- Document 01, "Marked cases and known blunders": the marked cases, one list.
 -- proofs/Check.antt computes them all at once.
 use mathlib.Core.List.{List, [], _∷_, _++_}
 use mathlib.Core.Bool.{Bool, true, false, _&&_}

@@ -10,7 +10,7 @@ use Rattle.gateway.specs.declared.state.Files.{Files}
 use Rattle.archive.specs.declared.alarms.Slot.{Slot}
 use Rattle.gateway.specs.declared.state.State.{State}
 use Rattle.archive.specs.Layout.{every, goodFiles, hasRoom, alarmDepth}
-use Rattle.archive.specs.Alarms.{offSlot}
+use Rattle.archive.specs.Alarms.{slotAt}
 
 unfoldable pub goodTriggers : List ℕ → Bool
 goodTriggers ts = every 10 (λ i. booleanOrNone (getD ts i 0))
@@ -20,7 +20,7 @@ unfoldable pub goodSlot : ℕ → ℕ → ℕ → Bool
 goodSlot point kind transducer = booleanOrNone point && (leb kind 3 && floatOrNone transducer)
 
 abbrev pub goodSlotAt : List Slot → ℕ → Bool
-goodSlotAt slots i = goodSlot (getD slots i offSlot .point) (getD slots i offSlot .kind) (getD slots i offSlot .transducer)
+goodSlotAt slots i = goodSlot (slotAt slots i .point) (slotAt slots i .kind) (slotAt slots i .transducer)
 
 unfoldable pub goodSlots : List Slot → Bool
 goodSlots slots = every 32 (goodSlotAt slots)

@@ -15,10 +15,11 @@ use Rattle.points.specs.declared.table.Found.the-variants.{In, Nowhere}
 abbrev pub tableBytes : ℕ
 tableBytes = 1424
 
--- kind, first and last point, bytes a point (0 stands for one bit), from which byte of the table
+-- the first row has a name: the scan counts its points
 abbrev pub booleanRow : Row
 booleanRow = record { kind = Boolean; first = 1801; last = 1928; size = 0; offset = 0 }
 
+-- kind, first and last point, bytes a point (0 stands for one bit), from which byte of the table
 unfoldable pub rows : List Row
 rows =
     booleanRow

@@ -3,42 +3,39 @@
 -- The frame is `readReply`, the reply that document 01 lays out; that the gateway sends it belongs to the frame call's contract.
 --     gets-back        the theorem; proofs/Told.antt carries its values on to the numbers that C gets
 --     zeros-empty, filled-not-empty    a record of zeros answers Empty (15), and a filled one never does
-use mathlib.Core.Path.{_≡_, refl, sym, ap, _∙_, subst}
-use mathlib.Core.List.{List, [], _∷_, _++_}
-use mathlib.Core.Bool.{Bool, true, false, cond, _&&_}
-use Prim.Native.Nat.{ℕ, _+_, _-_, _*_, _≤_, _<_}
+use mathlib.Core.Path.{_≡_, refl, sym, ap, _∙_}
+use mathlib.Core.List.{List, _∷_}
+use mathlib.Core.Bool.{Bool, true, false, cond}
+use Prim.Native.Nat.{ℕ, _+_, _-_, _*_, _≤_}
 use native.Mathlib.Nat.{add-mul, mul-le-mul-right}
 use native.Mathlib.Omega.{arith}
-use borrow.Author.Tests.{eq-eqb, ne-eqb, le-leb}
-use lib.Dec.{eqb, leb}
+use borrow.Author.Tests.{ne-eqb, le-leb}
 use lib.ListN.{length, getD, take, drop, length-append}
-use lib.Seq.{take-at, drop-drop, drop-append-le, take-append-le}
+use lib.Seq.{take-at}
 use Rattle.basics.specs.Lists.{allZero}
 use Rattle.basics.specs.Numbers.{within}
 use Rattle.basics.proofs.Tests.{eqb-same}
 use Rattle.basics.proofs.Lists.{length-part, part-part}
-use Rattle.modbus.specs.Crc.{crcOf, crcBytes, withCrc, endsInCrc}
+use Rattle.modbus.specs.Crc.{withCrc, endsInCrc}
 use Rattle.modbus.specs.Frame.{readReply}
 use Rattle.modbus.proofs.Laws.{framed-checks}
 use Rattle.points.specs.declared.table.Kind.{Kind}
 use Rattle.points.specs.declared.table.Kind.the-variants.{Boolean, Int16, Text8, Int32, Float, Text16}
 use Rattle.points.specs.declared.table.Row.{Row}
 use Rattle.points.specs.declared.groups.Group.the-variants.{Points}
-use Rattle.points.specs.Card.{Card, card}
+use Rattle.points.specs.Card.{card}
 use Rattle.points.specs.Table.{tableBytes, pointsSize, kindSize}
-use Rattle.points.specs.Groups.{groupOf, groupAt, firstPointAt, countAt, groupSize, groupsSize, recordSize, judgedCard}
-use Rattle.points.proofs.Laws.{GoodDefinition, judged-good, group-inside, lookup-size}
+use Rattle.points.specs.Groups.{groupAt, firstPointAt, countAt, groupSize, judgedCard}
+use Rattle.points.proofs.Laws.{judged-good, group-inside, lookup-size}
 use Rattle.records.specs.declared.stamp.Stamp.{Stamp}
 use Rattle.records.specs.Stamp.{inRange, stampFrom}
 use Rattle.records.specs.Capture.{capturedPoints, captured}
 use Rattle.records.specs.Record.{recordOf}
-use Rattle.records.specs.Value.{PointValue, flag, int16, int32, float, text, valueOf, valueInTable, bytesInStretch, valueInStretch}
-use Rattle.records.proofs.Laws.{length-record as record-length, length-captured}
+use Rattle.records.specs.Value.{text, valueOf, valueInTable, valueInStretch}
+use Rattle.records.proofs.Laws.{length-record as record-length}
 use Rattle.records.proofs.Found.{stamp-back, record-not-zero, record-stretch, found-value}
-use Rattle.reader.specs.declared.answers.PartAnswer.{PartAnswer}
-use Rattle.reader.specs.declared.answers.StampAnswer.{StampAnswer}
-use Rattle.reader.specs.Frame.{isReply, recordIn, recordCard, replyCard, andThen, frameCard, placeOf, isPoints, placeCard, stretchCard, stretchFrom, stretchLength, part, recordPart, stretchPart}
-use Rattle.reader.specs.Answers.{answered, pointIn, pointValue, recordAnswer, stampAnswer}
+use Rattle.reader.specs.Frame.{isReply, recordIn, recordCard, replyCard, frameCard, placeCard, stretchCard, stretchFrom, stretchLength, recordPart, stretchPart}
+use Rattle.reader.specs.Answers.{answered, pointValue, recordAnswer, stampAnswer}
 use Rattle.reader.proofs.Laws.{place-fits, ownBytes, value-by-kind}
 
 -- ---- Empty is told of zeros, and only of zeros
