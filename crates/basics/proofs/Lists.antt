@@ -5,6 +5,7 @@
 --     part-tabulate, map-tabulate       a part of a list, and a function at each place, as such a rule
 --     copied                            a list copied place by place
 --     filled-none, -next, -all          a loop that stores place after place by a rule: before, after one more turn, at the end
+--     copying-none, -next, -all         a loop that copies a list: the same
 --     sets-whole                        stores at every place of a list
 --     part-back, take-pasted, length-pasted    a part that was lent and has come back; what stands before its end; the length
 --     part-part                         a part of a part
@@ -23,7 +24,7 @@ use native.Mathlib.Numerals.{add-one}
 use native.Mathlib.Omega.{arith}
 use borrow.Author.Tests.{eqb-true}
 use lib.Dec.{eqb}
-use lib.ListN.{length, getD, set, take, drop, length-append, length-take, length-drop, List·getD-append, drop-of-length-le, take-append-drop}
+use lib.ListN.{length, getD, set, length-set, take, drop, length-append, length-take, length-drop, List·getD-append, drop-of-length-le, take-append-drop}
 use lib.Seq.{sets, sets-eq, ext-getD, getD-take, getD-drop, getD-append-seam, drop-cons, drop-drop, set-at, take-at, drop-at, take-all}
 use lib.Seq.{length-take-le, take-append-le, drop-append-le, take-append-seam}
 use Rattle.basics.specs.Lists.{tabulate, allZero, pasted}
@@ -104,6 +105,29 @@ filled-next f d i v more is = fill-next (tabulate i f) d i v (length-tabulate i 
 
 pub filled-all : (f : ℕ → ℕ) (d : List ℕ) (i : ℕ) → length d ≤ i → filled f d i ≡ tabulate i f
 filled-all f d i end = ap (λ t. tabulate i f ++ t) (drop-of-length-le d end) ∙ append-nil (tabulate i f)
+
+-- a loop that copies a list over one of its length, `to`, place by place: what it has made of that after i turns
+pub record Copying (from to : List ℕ) (i : ℕ) (made : List ℕ) : Type 0 where
+  pub some : i ≤ length to
+  pub long : length made ≡ length to
+  pub is : made ≡ filled (λ k. getD from k 0) to i
+
+pub copying-none : (from to : List ℕ) → Copying from to 0 to
+copying-none from to = record { some = omega arith; long = refl; is = filled-none (λ k. getD from k 0) to }
+
+pub copying-next : (from to made : List ℕ) (i : ℕ) → Copying from to i made → i < length made → Copying from to (i + 1) (set made i (getD from i 0))
+copying-next from to made i so-far more =
+    let below : i < length to = omega (arith, so-far .long, more) in
+    record {
+      some = omega (arith, below);
+      long = length-set made i (getD from i 0) ∙ so-far .long;
+      is = ap (λ l. set l i (getD from i 0)) (so-far .is) ∙ filled-next (λ k. getD from k 0) to i (getD from i 0) below refl;
+    }
+
+pub copying-all : (from to made : List ℕ) (i : ℕ) → length to ≡ length from → Copying from to i made → length made ≤ i → made ≡ from
+copying-all from to made i same so-far end =
+    let all : i ≡ length from = omega (arith, so-far .some, so-far .long) in
+    so-far .is ∙ filled-all (λ k. getD from k 0) to i (omega (arith, so-far .long)) ∙ ap (λ k. tabulate k (λ j. getD from j 0)) all ∙ copied from
 
 pub sets-whole : (l vs : List ℕ) → length l ≡ length vs → sets l 0 vs ≡ vs
 sets-whole l vs same =

@@ -1,9 +1,9 @@
--- Lists that the definitions of several crates share: one by a rule for each place, one written over, two tests.
+-- Lists that the definitions of several crates share: one by a rule for each place, one written over, lists of bytes, two tests.
 use mathlib.Core.List.{List, [], _∷_, _++_}
 use mathlib.Core.Bool.{Bool, true, false, _&&_}
-use Prim.Native.Nat.{ℕ, zero, suc, _+_}
+use Prim.Native.Nat.{ℕ, zero, suc, _+_, _<_}
 use lib.Dec.{eqb}
-use lib.ListN.{length, take, drop}
+use lib.ListN.{length, getD, take, drop}
 
 -- f 0, f 1, .., f (n - 1)
 unfoldable pub tabulate : ℕ → (ℕ → ℕ) → List ℕ
@@ -13,6 +13,10 @@ tabulate (suc n) f = tabulate n f ++ (f n ∷ [])
 -- the list xs with ys written over it from place a on
 abbrev pub pasted : List ℕ → ℕ → List ℕ → List ℕ
 pasted xs a ys = take a xs ++ (ys ++ drop (a + length ys) xs)
+
+-- every number of a list is a byte
+abbrev pub Bytes : List ℕ → Type 0
+Bytes xs = (i : ℕ) → getD xs i 0 < 256
 
 -- every number of a list is 0
 abbrev pub allZero : List ℕ → Bool

@@ -1,16 +1,16 @@
-// What every other crate shares: a test of a range, copies of slices, and in proofs/ facts of logic, lists and arithmetic.
+// What every other crate shares: the service card's numbers, a test of a range, copies of slices, and in proofs/ facts of logic,
+// lists and arithmetic.
 ghost use mathlib.Core.Path.{_≡_};
 ghost use lib.ListN.{length};
 ghost use Rattle.basics.specs.Numbers.{within};
 
+pub mod card;
+
 // Whether a number is one of lo to hi, both included.
-pub fn is_within(lo: u8, hi: u8, x: u8) -> bool
+pub fn is_within(lo: u32, hi: u32, x: u32) -> bool
     ensures { λ r. ⌜ r ≡ within lo hi x ⌝ }
 {
-    if x < lo {
-        return false;
-    }
-    x <= hi
+    (lo <= x) & (x <= hi)
 }
 
 // Copies a slice into one of its length. Without generics there is one for each width.

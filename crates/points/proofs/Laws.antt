@@ -1,20 +1,24 @@
 -- Laws of the table's lookup and of groups. Assumes nothing.
 --     row-here, row-past    the lookup from row i on, by the test on row i
 --     lookup-sound          what a computed test says of every row holds of the row that the lookup gives
+--     boolean-inside, boolean-is, float-inside, float-is    a point that is a Boolean or 0, or a float or 0, and is not 0: its bounds and its row
 --     boolean-row, boolean-found, boolean-point    a Boolean point and its row
+--     float-size            a float has four bytes
 --     group-size-small     a group adds at most the live table's bytes
+--     judged-done, judged-good    a definition that is not refused
+--     rest-zero, rest-unused    places of zeros behind those that the code walks
 use mathlib.Core.Path.{_≡_, refl, sym, ap, _∙_, subst}
 use mathlib.Core.List.{List, [], _∷_}
-use mathlib.Core.Bool.{Bool, true, false, cond, not, _&&_, false≢true}
+use mathlib.Core.Bool.{Bool, true, false, cond, not, _&&_}
 use Prim.Native.Nat.{ℕ, zero, suc, _+_, _-_, _*_, _/_, _≤_, _<_}
 use native.Mathlib.Nat.{mul-le-mul-right, add-mul, le-refl}
 use native.Mathlib.Omega.{arith}
 use native.Mathlib.Numerals.{add-one}
 use native.Mathlib.Decide.{le-ind}
 use lib.Dec.{leb, ltb, eqb, eqb·suc-zero}
-use lib.ListN.{length, getD, drop}
-use lib.Seq.{drop-cons}
-use borrow.Author.Tests.{eqb-true, leb-true, ltb-true, ltb-false, ne-eqb, le-leb}
+use lib.ListN.{length, getD, take, drop, length-drop}
+use lib.Seq.{drop-cons, getD-drop, take-all}
+use borrow.Author.Tests.{eqb-true, leb-true, ltb-true, ltb-false, ne-eqb, le-leb, lt-leb}
 use Rattle.basics.proofs.Tests.{and-left, and-right}
 use Rattle.points.specs.declared.table.Kind.{Kind}
 use Rattle.points.specs.declared.table.Kind.the-variants.{Boolean, Int16, Text8, Int32, Float, Text16}
@@ -23,9 +27,10 @@ use Rattle.points.specs.declared.table.Found.{Found}
 use Rattle.points.specs.declared.table.Found.the-variants.{In, Nowhere}
 use Rattle.points.specs.declared.groups.Group.{Group}
 use Rattle.points.specs.declared.groups.Group.the-variants.{Unused, Points, Bad}
-use Rattle.points.specs.Table.{tableBytes, rows, inRow, rowIn, rowOf, pointsSize, kindSize, booleanRow, booleanPoint, booleanPoints, isBoolean, inBooleans, booleanOrNone, isFloat, inFloats, floatOrNone}
-use Rattle.points.specs.Groups.{unused, endsInRow, pointsFrom, groupOf, groupSize, isBad, firstPointAt, countAt, groupAt, groupsSize, firstBad, recordSize, judgedCard}
-use Rattle.points.specs.Card.{card}
+use Rattle.points.specs.declared.groups.Judged.the-variants.{Good, BadGroup, Long}
+use Rattle.points.specs.Table.{tableBytes, rows, inRow, rowIn, rowOf, pointsSize, booleanRow, floatRow, booleanPoint, booleanPoints, inRowOrNone, booleanOrNone, floatOrNone}
+use Rattle.points.specs.Groups.{unused, endsInRow, pointsFrom, groupOf, groupSize, isBad, firstPointAt, countAt, groupAt, groupsSize, firstBad, recordSize, judged, judgedCard, ZeroFrom}
+use Rattle.points.specs.Card.{cardOf}
 
 pub row-here : (rs : List Row) (i p : ℕ) (d : Row) → i < length rs → inRow (getD rs i d) p ≡ true → rowIn (drop i rs) p ≡ In (getD rs i d)
 unfolding rowIn
@@ -88,7 +93,15 @@ pub rows-adjoin : rowsAdjoin 0 rows ≡ true
 unfolding rowsAdjoin rows pointsSize
 rows-adjoin = refl
 
--- a row's size is its kind's
+-- the bytes that a kind's value is made of, 0 standing for one bit: each row has its kind's
+abbrev pub kindSize : Kind → ℕ
+kindSize Boolean = 0
+kindSize Int16 = 2
+kindSize Text8 = 8
+kindSize Int32 = 4
+kindSize Float = 4
+kindSize Text16 = 16
+
 pub lookup-size : (p : ℕ) (r : Row) → rowOf p ≡ In r → r .size ≡ kindSize (r .kind)
 unfolding rowOf rows
 lookup-size p r e = eqb-true _ _ (found-in (λ x. eqb (x .size) (kindSize (x .kind))) p r rows refl e .0)
@@ -179,52 +192,72 @@ group-of-one p r e =
     let ends : leb (p + 1) (r .last + 1) ≡ true = le-leb (p + 1) (r .last + 1) (omega (arith, ok .to)) in
     simp (some, e, ends)
 
--- a float point has four bytes
-pub float-size : (p : ℕ) → floatOrNone p ≡ true → (p ≡ 0 → ⊥) → groupSize (groupOf p 1) 1 ≡ 4
-unfolding floatOrNone pointsSize
-float-size p ok some = go (rowOf p) refl (simp (ne-eqb p 0 some) at ok)
-  where
-    float : (k : Kind) → isFloat k ≡ true → kindSize k ≡ 4
-    float Boolean e = absurd (false≢true e)
-    float Int16 e = absurd (false≢true e)
-    float Text8 e = absurd (false≢true e)
-    float Int32 e = refl
-    float Float e = refl
-    float Text16 e = absurd (false≢true e)
+-- ---- points of one row, or 0
+-- a point of row r, or 0, that is not 0
+in-row : (r : Row) (p : ℕ) → inRowOrNone r p ≡ true → (p ≡ 0 → ⊥) → (r .first ≤ p) × (p ≤ r .last)
+unfolding inRow
+in-row r p ok some =
+    let both : (leb (r .first) p && leb p (r .last)) ≡ true = simp (ne-eqb p 0 some) at ok in
+    (leb-true _ _ (and-left (leb (r .first) p) (leb p (r .last)) both), leb-true _ _ (and-right (leb (r .first) p) (leb p (r .last)) both))
 
-    go : (f : Found) → rowOf p ≡ f → inFloats f ≡ true → groupSize (groupOf p 1) 1 ≡ 4
-    go Nowhere e t = absurd (false≢true t)
-    go (In r) e t =
-        let four : r .size ≡ 4 = lookup-size p r e ∙ float (r .kind) t in
-        ap (λ g. groupSize g 1) (group-of-one p r e) ∙ simp four
+-- a Boolean point, and its row
+pub boolean-inside : (p : ℕ) → booleanOrNone p ≡ true → (p ≡ 0 → ⊥) → (1801 ≤ p) × (p ≤ 1928)
+unfolding booleanOrNone
+boolean-inside p ok some = in-row booleanRow p ok some
 
--- ---- Boolean points
+boolean-looked : (p : ℕ) → 1801 ≤ p → p ≤ 1928 → rowOf p ≡ In booleanRow
+unfolding rowOf rowIn rows inRow
+boolean-looked p from to = simp (le-leb 1801 p from, le-leb p 1928 to)
+
+pub boolean-is : (p : ℕ) → booleanOrNone p ≡ true → (p ≡ 0 → ⊥) → rowOf p ≡ In booleanRow
+boolean-is p ok some = let inside = boolean-inside p ok some in boolean-looked p (inside .0) (inside .1)
+
 -- a Boolean point is in the row that starts with the table, and is one of its 128
-booleansFirst : Row → Bool
-booleansFirst r = cond (isBoolean (r .kind)) (eqb (r .offset) 0 && leb (r .last + 1) (r .first + booleanPoints)) true
-
 pub boolean-row : (p : ℕ) (r : Row) → booleanOrNone p ≡ true → rowOf p ≡ In r →
     (r .offset ≡ 0) × (r .first ≤ p) × (p - r .first < booleanPoints)
-unfolding booleanOrNone booleansFirst rowOf rows
 boolean-row p r ok e =
-    let starts = eqb (r .offset) 0 in
-    let ends = leb (r .last + 1) (r .first + booleanPoints) in
     let seen = lookup-sound p r e in
-    let some : eqb p 0 ≡ false = ne-eqb p 0 (λ z. omega (arith, seen .named, seen .from, z)) in
-    let boolean : isBoolean (r .kind) ≡ true = ap inBooleans (sym e) ∙ (simp some at ok) in
-    let both : (starts && ends) ≡ true = simp boolean at (found-in booleansFirst p r rows refl e .0) in
-    let last : r .last + 1 ≤ r .first + booleanPoints = leb-true (r .last + 1) (r .first + booleanPoints) (and-right starts ends both) in
-    (eqb-true (r .offset) 0 (and-left starts ends both), seen .from, omega (arith, last, seen .from, seen .to))
+    let some : p ≡ 0 → ⊥ = λ z. omega (arith, seen .named, seen .from, z) in
+    let inside = boolean-inside p ok some in
+    let found = boolean-is p ok some in
+    let same : booleanRow ≡ r = cc (found, e) in
+    subst (λ x. (x .offset ≡ 0) × (x .first ≤ p) × (p - x .first < booleanPoints)) same (refl, inside .0, omega (arith, inside .0, inside .1))
 
 -- Boolean number i is in it
 pub boolean-found : (i : ℕ) → i < booleanPoints → rowOf (booleanPoint i) ≡ In booleanRow
-unfolding rowOf rowIn rows inRow
-boolean-found i below =
-    simp (le-leb 1801 (booleanPoint i) (omega (arith, below)), le-leb (booleanPoint i) 1928 (omega (arith, below)))
+boolean-found i below = boolean-looked (booleanPoint i) (omega (arith, below)) (omega (arith, below))
 
 pub boolean-point : (i : ℕ) → i < booleanPoints → booleanOrNone (booleanPoint i) ≡ true
-unfolding booleanOrNone
-boolean-point i below = simp (boolean-found i below, ne-eqb (booleanPoint i) 0 (λ z. omega (arith, z)))
+unfolding booleanOrNone inRow
+boolean-point i below =
+    simp (ne-eqb (booleanPoint i) 0 (λ z. omega (arith, z)), le-leb 1801 (booleanPoint i) (omega (arith, below)), le-leb (booleanPoint i) 1928 (omega (arith, below)))
+
+-- a float point, its row and its four bytes
+pub float-inside : (p : ℕ) → floatOrNone p ≡ true → (p ≡ 0 → ⊥) → (7101 ≤ p) × (p ≤ 7228)
+unfolding floatOrNone
+float-inside p ok some = in-row floatRow p ok some
+
+-- a point behind a row is not in it
+behind : (r : Row) (p : ℕ) → r .last < p → inRow r p ≡ false
+unfolding inRow
+behind r p after = rw (lt-leb p (r .last) after) (go (leb (r .first) p))
+  where
+    go : (b : Bool) → (b && false) ≡ false
+    go true = refl
+    go false = refl
+
+pub float-is : (p : ℕ) → floatOrNone p ≡ true → (p ≡ 0 → ⊥) → rowOf p ≡ In floatRow
+unfolding rowOf rowIn rows floatOrNone
+float-is p ok some =
+    let from = float-inside p ok some .0 in
+    let here : inRow floatRow p ≡ true = simp (ne-eqb p 0 some) at ok in
+    let past : (i : ℕ) → getD rows i floatRow .last < 7101 → inRow (getD rows i floatRow) p ≡ false
+    = λ i before. behind (getD rows i floatRow) p (omega (arith, from, before)) in
+    simp (past 0 (omega arith), past 1 (omega arith), past 2 (omega arith), past 3 (omega arith), here)
+
+pub float-size : (p : ℕ) → floatOrNone p ≡ true → (p ≡ 0 → ⊥) → groupSize (groupOf p 1) 1 ≡ 4
+unfolding pointsSize
+float-size p ok some = ap (λ g. groupSize g 1) (group-of-one p floatRow (float-is p ok some))
 
 -- the total of the first k places
 pub groups-size-small : (gs : List ℕ) (k : ℕ) → groupsSize gs k ≤ tableBytes * k
@@ -262,27 +295,43 @@ pub record GoodDefinition (gs : List ℕ) (size : ℕ) : Type 0 where
   pub least : 6 ≤ size
   pub most : size ≤ 250
 
-pub judged-good : (gs : List ℕ) (size : ℕ) → judgedCard gs ≡ card 0 size → GoodDefinition gs size
-unfolding judgedCard recordSize
-judged-good gs size e = go₁ (eqb (length gs) 32) refl e
+-- a definition that the card does not refuse is good, with its record's size
+pub judged-done : (gs : List ℕ) → judgedCard gs .number ≡ 0 → (judged gs ≡ Good (recordSize gs)) × GoodDefinition gs (recordSize gs)
+unfolding judged recordSize
+judged-done gs done = go (eqb (length gs) 32) (ltb 0 (firstBad gs 16)) (ltb 250 (6 + groupsSize gs 16)) refl refl refl done
   where
-    go₃ : length gs ≡ 32 → firstBad gs 16 ≡ 0 → (b : Bool) → ltb 250 (6 + groupsSize gs 16) ≡ b
-        → cond b (card 8 0) (card 0 (6 + groupsSize gs 16)) ≡ card 0 size → GoodDefinition gs size
-    go₃ list none true t q = let z : _≡_ {A = ℕ} 8 0 = ap (λ c. c .number) q in absurd (omega arith)
-    go₃ list none false t q =
-        let is : 6 + groupsSize gs 16 ≡ size = ap (λ c. c .carried) q in
-        let fits = ltb-false 250 (6 + groupsSize gs 16) t in
-        record { list = list; none = none; sized = sym is; least = omega arith; most = omega arith }
+    go : (b c d : Bool) → eqb (length gs) 32 ≡ b → ltb 0 (firstBad gs 16) ≡ c → ltb 250 (6 + groupsSize gs 16) ≡ d
+        → cardOf (cond (not b) (BadGroup 0) (cond c (BadGroup (firstBad gs 16)) (cond d Long (Good (6 + groupsSize gs 16))))) .number ≡ 0
+        → (cond (not b) (BadGroup 0) (cond c (BadGroup (firstBad gs 16)) (cond d Long (Good (6 + groupsSize gs 16)))) ≡ Good (6 + groupsSize gs 16)) × GoodDefinition gs (6 + groupsSize gs 16)
+    go false c d long bad over q = absurd (omega arith)
+    go true true d long bad over q = absurd (omega arith)
+    go true false true long bad over q = absurd (omega arith)
+    go true false false long bad over q =
+        let first = ltb-false 0 (firstBad gs 16) bad in
+        let fits = ltb-false 250 (6 + groupsSize gs 16) over in
+        (refl, record { list = eqb-true (length gs) 32 long; none = omega arith; sized = refl; least = omega arith; most = omega arith })
 
-    go₂ : length gs ≡ 32 → (b : Bool) → ltb 0 (firstBad gs 16) ≡ b
-        → cond b (card 7 (firstBad gs 16)) (cond (ltb 250 (6 + groupsSize gs 16)) (card 8 0) (card 0 (6 + groupsSize gs 16))) ≡ card 0 size → GoodDefinition gs size
-    go₂ list true t q = let z : _≡_ {A = ℕ} 7 0 = ap (λ c. c .number) q in absurd (omega arith)
-    go₂ list false t q =
-        let none = ltb-false 0 (firstBad gs 16) t in
-        go₃ list (omega arith) (ltb 250 (6 + groupsSize gs 16)) refl q
+pub judged-good : (gs : List ℕ) (size : ℕ) → judged gs ≡ Good size → GoodDefinition gs size
+judged-good gs size is =
+    let both = judged-done gs (ap (λ j. cardOf j .number) is) in
+    let same : recordSize gs ≡ size = cc (both .0, is) in
+    subst (λ n. GoodDefinition gs n) same (both .1)
 
-    go₁ : (b : Bool) → eqb (length gs) 32 ≡ b
-        → cond (not b) (card 7 0) (cond (ltb 0 (firstBad gs 16)) (card 7 (firstBad gs 16)) (cond (ltb 250 (6 + groupsSize gs 16)) (card 8 0) (card 0 (6 + groupsSize gs 16)))) ≡ card 0 size
-        → GoodDefinition gs size
-    go₁ true t q = go₂ (eqb-true (length gs) 32 t) (ltb 0 (firstBad gs 16)) refl q
-    go₁ false t q = let z : _≡_ {A = ℕ} 7 0 = ap (λ c. c .number) q in absurd (omega arith)
+-- ---- the places that are not walked
+pub rest-zero : (gs : List ℕ) (k : ℕ) → ZeroFrom (take (length gs - k) (drop k gs)) 0 → ZeroFrom gs k
+rest-zero gs k none i behind =
+    let all : take (length gs - k) (drop k gs) ≡ drop k gs = take-all (length gs - k) (drop k gs) (omega (arith, length-drop k gs)) in
+    let here : k + (i - k) ≡ i = omega (arith, behind) in
+    ap (λ j. getD gs j 0) (sym here) ∙ sym (getD-drop k gs (i - k) 0) ∙ ap (λ l. getD l (i - k) 0) (sym all) ∙ none (i - k) (omega arith)
+
+-- places of zeros are unused: they add nothing, and none is bad
+module _ (gs : List ℕ) (used : ℕ) (none : ZeroFrom gs (2 * used)) where
+  unused-at : (k : ℕ) → used ≤ k → groupAt gs k ≡ Unused
+  unfolding groupOf unused
+  unused-at k behind = rw (none (2 * k) (omega (arith, behind)), none (2 * k + 1) (omega (arith, behind))) refl
+
+  pub rest-unused : (k : ℕ) → used ≤ k → (groupsSize gs k ≡ groupsSize gs used) × (firstBad gs used ≡ 0 → firstBad gs k ≡ 0)
+  unfolding groupsSize firstBad
+  rest-unused k behind =
+      le-ind (λ j. (groupsSize gs j ≡ groupsSize gs used) × (firstBad gs used ≡ 0 → firstBad gs j ≡ 0)) (refl, λ same. same)
+      (λ j later so-far. (rw (unused-at j later) (omega (arith, so-far .0)), λ start. rw (so-far .1 start, unused-at j later) refl)) k behind

@@ -1,17 +1,21 @@
 -- Document 01, "Records": the 16 groups of a file, and the size of its record.
 -- A definition is 32 numbers: a first point and a number of points for each of the 16 places.
 use mathlib.Core.List.{List}
+use mathlib.Core.Path.{_≡_}
 use mathlib.Core.Bool.{Bool, cond, not, _&&_}
-use Prim.Native.Nat.{ℕ, zero, suc, _+_, _*_}
+use Prim.Native.Nat.{ℕ, zero, suc, _+_, _*_, _≤_}
 use lib.Dec.{leb, ltb, eqb}
 use lib.ListN.{length, getD}
+use Rattle.basics.specs.Card.{Card, firstOf}
 use Rattle.points.specs.declared.table.Row.{Row}
 use Rattle.points.specs.declared.table.Found.{Found}
 use Rattle.points.specs.declared.table.Found.the-variants.{In, Nowhere}
 use Rattle.points.specs.declared.groups.Group.{Group}
 use Rattle.points.specs.declared.groups.Group.the-variants.{Unused, Points, Bad}
+use Rattle.points.specs.declared.groups.Judged.{Judged}
+use Rattle.points.specs.declared.groups.Judged.the-variants.{Good, BadGroup, Long}
 use Rattle.points.specs.Table.{rowOf, pointsSize}
-use Rattle.points.specs.Card.{Card, card}
+use Rattle.points.specs.Card.{cardOf}
 
 -- (0, 0) is unused
 unfoldable pub unused : ℕ → ℕ → Bool
@@ -56,24 +60,28 @@ unfoldable pub groupsSize : List ℕ → ℕ → ℕ
 groupsSize gs zero = 0
 groupsSize gs (suc k) = groupsSize gs k + groupSize (groupAt gs k) (countAt gs k)
 
--- the first of two numbers that is not 0
-abbrev orElse : ℕ → ℕ → ℕ
-orElse a b = cond (eqb a 0) b a
-
 -- the place of the first bad group among the first k, counted from 1; 0 where there is none
 unfoldable pub firstBad : List ℕ → ℕ → ℕ
 firstBad gs zero = 0
-firstBad gs (suc k) = orElse (firstBad gs k) (cond (isBad (groupAt gs k)) (suc k) 0)
+firstBad gs (suc k) = firstOf (firstBad gs k) (cond (isBad (groupAt gs k)) (suc k) 0)
 
 -- a record's size: 6 stamp bytes, then the groups
 unfoldable pub recordSize : List ℕ → ℕ
 recordSize gs = 6 + groupsSize gs 16
 
--- a definition judged: Group (7) with the first bad group, or with 0 for the reading end's list that is not of 32 numbers;
--- Long (8) over 250 bytes; done carries the record's size
-unfoldable pub judgedCard : List ℕ → Card
-judgedCard gs =
-    cond (not (eqb (length gs) 32)) (card 7 0)
-    (cond (ltb 0 (firstBad gs 16)) (card 7 (firstBad gs 16))
-    (cond (ltb 250 (recordSize gs)) (card 8 0)
-    (card 0 (recordSize gs))))
+-- a definition judged: the first bad group, or 0 for the reading end's list that is not of 32 numbers; over 250 bytes; else good,
+-- with the record's size
+unfoldable pub judged : List ℕ → Judged
+judged gs =
+    cond (not (eqb (length gs) 32)) (BadGroup 0)
+    (cond (ltb 0 (firstBad gs 16)) (BadGroup (firstBad gs 16))
+    (cond (ltb 250 (recordSize gs)) Long
+    (Good (recordSize gs))))
+
+-- the same on the service card: Group (7), Long (8) or done
+abbrev pub judgedCard : List ℕ → Card
+judgedCard gs = cardOf (judged gs)
+
+-- ---- what the code's walk asks: every number from place k of a list on is 0
+abbrev pub ZeroFrom : List ℕ → ℕ → Type 0
+ZeroFrom gs k = (i : ℕ) → k ≤ i → getD gs i 0 ≡ 0

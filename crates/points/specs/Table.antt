@@ -1,11 +1,10 @@
 -- Document 01, "Live table": the six rows, which row holds a point, and where a point's value stands.
 use mathlib.Core.List.{List, [], _∷_}
-use mathlib.Core.Bool.{Bool, true, false, cond, _||_}
+use mathlib.Core.Bool.{Bool, cond, _||_}
 use Prim.Native.Nat.{ℕ, _+_, _-_, _*_, _/_, _%_, _^_}
 use lib.Dec.{eqb}
 use lib.ListN.{getD}
 use Rattle.basics.specs.Numbers.{within}
-use Rattle.points.specs.declared.table.Kind.{Kind}
 use Rattle.points.specs.declared.table.Kind.the-variants.{Boolean, Int16, Text8, Int32, Float, Text16}
 use Rattle.points.specs.declared.table.Row.{Row}
 use Rattle.points.specs.declared.table.Found.{Found}
@@ -15,9 +14,12 @@ use Rattle.points.specs.declared.table.Found.the-variants.{In, Nowhere}
 abbrev pub tableBytes : ℕ
 tableBytes = 1424
 
--- the first row has a name: the scan counts its points
+-- two rows have names: triggers and slots name points of theirs
 abbrev pub booleanRow : Row
 booleanRow = record { kind = Boolean; first = 1801; last = 1928; size = 0; offset = 0 }
+
+abbrev pub floatRow : Row
+floatRow = record { kind = Float; first = 7101; last = 7228; size = 4; offset = 656 }
 
 -- kind, first and last point, bytes a point (0 stands for one bit), from which byte of the table
 unfoldable pub rows : List Row
@@ -26,7 +28,7 @@ rows =
     ∷ record { kind = Int16; first = 3001; last = 3064; size = 2; offset = 16 }
     ∷ record { kind = Text8; first = 4001; last = 4032; size = 8; offset = 144 }
     ∷ record { kind = Int32; first = 5101; last = 5164; size = 4; offset = 400 }
-    ∷ record { kind = Float; first = 7101; last = 7228; size = 4; offset = 656 }
+    ∷ floatRow
     ∷ record { kind = Text16; first = 14001; last = 14016; size = 16; offset = 1168 }
     ∷ []
 
@@ -73,44 +75,15 @@ packedSize n = (n + 7) / 8
 unfoldable pub pointsSize : Row → ℕ → ℕ
 pointsSize r n = cond (isBits r) (packedSize n) (n * r .size)
 
--- ---- points of a kind
--- a kind's bytes a point, 0 standing for one bit: the rows' sizes once more, by kind
-abbrev pub kindSize : Kind → ℕ
-kindSize Boolean = 0
-kindSize Int16 = 2
-kindSize Text8 = 8
-kindSize Int32 = 4
-kindSize Float = 4
-kindSize Text16 = 16
-
-abbrev pub isBoolean : Kind → Bool
-isBoolean Boolean = true
-isBoolean Int16 = false
-isBoolean Text8 = false
-isBoolean Int32 = false
-isBoolean Float = false
-isBoolean Text16 = false
-
-abbrev pub inBooleans : Found → Bool
-inBooleans Nowhere = false
-inBooleans (In r) = isBoolean (r .kind)
+-- ---- points of one row
+-- a point of row r, or 0 for none
+abbrev pub inRowOrNone : Row → ℕ → Bool
+inRowOrNone r p = eqb p 0 || inRow r p
 
 -- a Boolean point or 0, as a trigger is, and a slot's point
 unfoldable pub booleanOrNone : ℕ → Bool
-booleanOrNone p = eqb p 0 || inBooleans (rowOf p)
+booleanOrNone p = inRowOrNone booleanRow p
 
-abbrev pub isFloat : Kind → Bool
-isFloat Boolean = false
-isFloat Int16 = false
-isFloat Text8 = false
-isFloat Int32 = false
-isFloat Float = true
-isFloat Text16 = false
-
-abbrev pub inFloats : Found → Bool
-inFloats Nowhere = false
-inFloats (In r) = isFloat (r .kind)
-
--- a float point or 0
+-- a float point or 0, as a slot's transducer is
 unfoldable pub floatOrNone : ℕ → Bool
-floatOrNone p = eqb p 0 || inFloats (rowOf p)
+floatOrNone p = inRowOrNone floatRow p

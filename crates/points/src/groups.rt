@@ -1,10 +1,11 @@
 // The groups of a definition, document 01, "Records". A definition is 32 numbers: a first point and a number of points for
 // each of the 16 places.
 ghost use mathlib.Core.Path.{_≡_};
-ghost use Prim.Native.Nat.{_<_, _≤_};
+ghost use mathlib.Core.Bool.{true};
+ghost use Prim.Native.Nat.{_*_, _<_, _≤_};
 ghost use lib.ListN.{length};
-ghost use Rattle.points.specs.Groups.{unused, endsInRow, groupOf, groupSize, groupAt, isBad, groupsSize, judgedCard};
-ghost use Rattle.points.specs.Card.{cardOf};
+ghost use Rattle.points.specs.Table.{rowOf};
+ghost use Rattle.points.specs.Groups.{unused, endsInRow, pointsFrom, groupOf, groupSize, groupAt, isBad, groupsSize, judged, ZeroFrom};
 use crate::table::Found;
 use crate::table::Row;
 use crate::table::points_size;
@@ -41,13 +42,10 @@ fn ends_in_row(row: Row, point: u16, count: u16) -> bool
     (point as u32) + (count as u32) <= (row.last as u32) + 1
 }
 
-// What the group of `count` points from `point` on is.
-pub fn group_of(point: u16, count: u16) -> Group
-    ensures { λ r. ⌜ r ≡ groupOf point count ⌝ }
+// What the group of `count` points from `point` on is, where it is not (0, 0).
+fn points_from(point: u16, count: u16) -> Group
+    ensures { λ r. ⌜ r ≡ pointsFrom (rowOf point) point count ⌝ }
 {
-    if is_unused(point, count) {
-        return Group::Unused;
-    }
     match row_of(point) {
         Found::Nowhere => Group::Bad,
         Found::In(row) => {
@@ -60,6 +58,16 @@ pub fn group_of(point: u16, count: u16) -> Group
             Group::Bad
         }
     }
+}
+
+// What the group of `count` points from `point` on is. An unused one needs no lookup.
+pub fn group_of(point: u16, count: u16) -> Group
+    ensures { λ r. ⌜ r ≡ groupOf point count ⌝ }
+{
+    if is_unused(point, count) {
+        return Group::Unused;
+    }
+    points_from(point, count)
 }
 
 // The bytes that a group of `count` points adds to a record.
@@ -106,16 +114,44 @@ fn is_bad(group: Group) -> bool
     }
 }
 
+// Whether every number is 0. It looks at all of them, so that it can run many at a time.
+fn are_zero(numbers: &[u16]) -> bool
+    ensures { λ r. ⌜ (r ≡ true → ZeroFrom (now (numbers .entry)) 0) ⌝ }
+{
+    let mut zero = true;
+    let mut i: usize = 0;
+    while i < numbers.len() {
+        zero = zero & (numbers[i] == 0);
+        i += 1;
+    }
+    zero
+}
+
+// How many places of a definition are to be walked: those behind are unused. Most definitions have few groups.
+fn places_used(groups: &[u16]) -> usize
+    requires { ⌜ length (now groups) ≡ 32 ⌝ }
+    ensures { λ r. ⌜ (r ≤ 16) × ZeroFrom (now (groups .entry)) (2 * r) ⌝ }
+{
+    if !are_zero(&groups[16..]) {
+        return 16;
+    }
+    if !are_zero(&groups[4..]) {
+        return 8;
+    }
+    2
+}
+
 // Judges a definition of any length, in one walk along its places; the lowest number of the card that applies.
 pub fn judge(groups: &[u16]) -> Judged
-    ensures { λ r. ⌜ cardOf r ≡ judgedCard (now (groups .entry)) ⌝ }
+    ensures { λ r. ⌜ r ≡ judged (now (groups .entry)) ⌝ }
 {
     if groups.len() != 32 {
         return Judged::BadGroup(0);
     }
+    let used = places_used(groups);
     let mut size: usize = 6;
     let mut g: usize = 0;
-    while g < 16 {
+    while g < used {
         let group = group_at(groups, g);
         if is_bad(group) {
             return Judged::BadGroup((g + 1) as u8);

@@ -1,6 +1,7 @@
 // The six rows of the live table, document 01, "Live table".
 ghost use mathlib.Core.Path.{_≡_};
-ghost use Rattle.points.specs.Table.{inRow, rowOf, pointsSize};
+ghost use Rattle.points.specs.Table.{inRow, inRowOrNone, rowOf, pointsSize, booleanOrNone, floatOrNone};
+use basics::is_within;
 
 // What a row's points are, as in source document 000.
 pub enum Kind {
@@ -26,17 +27,31 @@ pub enum Found {
     Nowhere,
 }
 
+// The live table's bytes.
+pub const TABLE_BYTES: usize = 1424;
+
 // The point of Boolean number 0.
 pub const FIRST_BOOLEAN: u16 = 1801;
 
+// Two rows have names: triggers and slots name points of theirs.
+const BOOLEAN_ROW: Row = Row {
+    kind: Kind::Boolean,
+    first: FIRST_BOOLEAN,
+    last: 1928,
+    size: 0,
+    offset: 0,
+};
+
+const FLOAT_ROW: Row = Row {
+    kind: Kind::Float,
+    first: 7101,
+    last: 7228,
+    size: 4,
+    offset: 656,
+};
+
 const ROWS: [Row; 6] = [
-    Row {
-        kind: Kind::Boolean,
-        first: FIRST_BOOLEAN,
-        last: 1928,
-        size: 0,
-        offset: 0,
-    },
+    BOOLEAN_ROW,
     Row {
         kind: Kind::Int16,
         first: 3001,
@@ -58,13 +73,7 @@ const ROWS: [Row; 6] = [
         size: 4,
         offset: 400,
     },
-    Row {
-        kind: Kind::Float,
-        first: 7101,
-        last: 7228,
-        size: 4,
-        offset: 656,
-    },
+    FLOAT_ROW,
     Row {
         kind: Kind::Text16,
         first: 14001,
@@ -75,27 +84,63 @@ const ROWS: [Row; 6] = [
 ];
 
 // Whether a point is one of a row's.
-fn in_row(row: Row, point: u16) -> bool
+fn in_row(row: Row, point: u32) -> bool
     ensures { λ r. ⌜ r ≡ inRow row point ⌝ }
 {
-    if point < row.first {
-        return false;
-    }
-    point <= row.last
+    is_within(row.first as u32, row.last as u32, point)
 }
 
-// The row that holds a point: the one lookup of the table.
+// Whether a point is one of a row's or 0. A point of 32 bits is not cut to 16.
+fn is_in_row_or_none(row: Row, point: u32) -> bool
+    ensures { λ r. ⌜ r ≡ inRowOrNone row point ⌝ }
+{
+    (point == 0) | in_row(row, point)
+}
+
+// Whether a point is a Boolean or 0.
+pub fn is_boolean_or_none(point: u32) -> bool
+    ensures { λ r. ⌜ r ≡ booleanOrNone point ⌝ }
+{
+    is_in_row_or_none(BOOLEAN_ROW, point)
+}
+
+// Whether a point is a float or 0.
+pub fn is_float_or_none(point: u32) -> bool
+    ensures { λ r. ⌜ r ≡ floatOrNone point ⌝ }
+{
+    is_in_row_or_none(FLOAT_ROW, point)
+}
+
+// The row that holds a point: the one lookup of the table. Each row is asked by its number and not in a loop: with an index that
+// changes, the compiler builds the table on the stack.
 pub fn row_of(point: u16) -> Found
     ensures { λ r. ⌜ r ≡ rowOf point ⌝ }
 {
     let rows = ROWS;
-    let mut i: usize = 0;
-    while i < 6 {
-        let row = rows[i];
-        if in_row(row, point) {
-            return Found::In(row);
-        }
-        i += 1;
+    let p = point as u32;
+    let booleans = rows[0];
+    if in_row(booleans, p) {
+        return Found::In(booleans);
+    }
+    let short_ints = rows[1];
+    if in_row(short_ints, p) {
+        return Found::In(short_ints);
+    }
+    let short_texts = rows[2];
+    if in_row(short_texts, p) {
+        return Found::In(short_texts);
+    }
+    let long_ints = rows[3];
+    if in_row(long_ints, p) {
+        return Found::In(long_ints);
+    }
+    let floats = rows[4];
+    if in_row(floats, p) {
+        return Found::In(floats);
+    }
+    let long_texts = rows[5];
+    if in_row(long_texts, p) {
+        return Found::In(long_texts);
     }
     Found::Nowhere
 }

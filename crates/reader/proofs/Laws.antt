@@ -1,115 +1,92 @@
 -- Laws of the reading end's answers. Assumes nothing.
---     says, says-good, says-refused    an answer by one of its cases, and what a case says
---     refused-then     a refusal stands
---     and-then-done    where what comes next is done, so was what came before
 --     frame-good       what a frame is that is not refused
 --     stretch-good     what a place is whose stretch is not refused
+--     two-bytes, four-bytes    numbers from bytes
+--     value-of, flag-of        a point's value in a stretch, by kind
+--     lent-record, lent-point, lent-size, lent-bytes, lent-place    what the inner functions are handed
 use mathlib.Core.Path.{_≡_, refl, sym, ap, ap₂, _∙_, subst}
 use mathlib.Core.List.{List, [], _∷_}
 use mathlib.Core.Bool.{Bool, true, false, cond}
+use mathlib.Core.Logic.{⊎-elim}
 use Prim.Native.Nat.{ℕ, _+_, _-_, _*_, _≤_}
-use native.Mathlib.Nat.{add-zero, mul-le-mul-right}
+use native.Mathlib.Nat.{add-zero, add-mul, mul-le-mul-right}
 use native.Mathlib.Omega.{arith}
-use borrow.Author.Tests.{eqb-true, eqb-false, leb-true, le-leb}
-use lib.Dec.{eqb, leb}
+use borrow.Author.Tests.{eqb-true, leb-true, le-leb, ltb-true, eq-eqb, ne-eqb}
+use lib.Dec.{eqb, leb, ltb}
 use lib.ListN.{length, getD, take, drop}
-use Rattle.basics.specs.Lists.{allZero}
+use Rattle.basics.specs.Lists.{allZero, tabulate}
 use Rattle.basics.specs.Numbers.{within}
-use Rattle.basics.proofs.Tests.{and-left, and-right}
-use Rattle.basics.specs.Lists.{tabulate}
+use Rattle.basics.proofs.Tests.{and-left, and-right, eq-or-not}
 use Rattle.basics.proofs.Lists.{length-part, part-tabulate}
 use Rattle.modbus.specs.Word.{numberOf, wordAt}
 use Rattle.points.specs.declared.table.Kind.{Kind}
-use Rattle.points.specs.Table.{isBits, flagAt, packedSize, pointsSize, kindSize}
+use Rattle.points.specs.declared.table.Kind.the-variants.{Boolean}
 use Rattle.points.specs.declared.table.Row.{Row}
-use Rattle.points.specs.declared.groups.Group.the-variants.{Unused, Points}
-use Rattle.points.specs.Card.{Card, card}
-use Rattle.points.specs.Groups.{judgedCard, groupOf, groupAt, groupSize, groupsSize, recordSize}
-use Rattle.points.proofs.Laws.{GoodDefinition, judged-good, group-inside, lookup-size, groups-size-next, groups-size-mono}
+use Rattle.points.specs.declared.groups.Group.{Group}
+use Rattle.points.specs.declared.groups.Group.the-variants.{Unused, Points, Bad}
+use Rattle.points.specs.declared.groups.Judged.{Judged}
+use Rattle.points.specs.declared.groups.Judged.the-variants as Judged
+use Rattle.points.specs.Table.{isBits, flagAt, packedSize, pointsSize}
+use Rattle.points.specs.Groups.{judged, groupOf, groupAt, groupSize, groupsSize, recordSize}
+use Rattle.points.proofs.Laws.{GoodDefinition, judged-good, group-inside, kindSize, lookup-size, groups-size-next, groups-size-mono}
 use Rattle.records.specs.Stamp.{inRange, stampFrom}
-use Rattle.records.specs.Value.{valueOf, bytesInStretch, valueInStretch}
-use Rattle.reader.specs.Lent.{LentStretch, LentPoint}
+use Rattle.records.specs.Value.{flag, valueOf, bytesInStretch, valueInStretch}
+use Rattle.reader.specs.Lent.{LentRecord, LentStretch, LentPoint}
 use Rattle.reader.specs.declared.frame.Checked.{Checked}
 use Rattle.reader.specs.declared.frame.Checked.the-variants.{Good, Refused}
-use Rattle.reader.specs.Checked.{checkedCard, isGood, Says}
-use Rattle.reader.specs.Frame.{isReply, recordIn, recordCard, replyCard, andThen, frameCard, placeOf, isPoints, placeCard, stretchCard, stretchFrom, stretchLength, recordPart, stretchPart}
+use Rattle.reader.specs.Checked.{andThen}
+use Rattle.reader.specs.Frame.{isReply, recordPart, recordChecked, replyChecked, checkedBy, frameChecked, groupNamed, placeChecked, stretchChecked, stretchFrom, stretchLength, stretchPart}
 
--- ---- an answer and the card that it says
-pub says : {c : Card} (r : Checked) → isGood r ≡ eqb (checkedCard r .number) 0 → checkedCard r ≡ c → Says r c
-says r done is = record { card = is; done = done ∙ ap (λ x. eqb (x .number) 0) is }
-
-pub says-good : {r : Checked} {c : Card} {v : ℕ} → Says r c → r ≡ Good v → c ≡ card 0 v
-says-good told is = sym (told .card) ∙ ap checkedCard is
-
-pub says-refused : {r : Checked} {c : Card} {n k : ℕ} → Says r c → r ≡ Refused n k → (c ≡ card n k) × (eqb (c .number) 0 ≡ false)
-says-refused told is = (sym (told .card) ∙ ap checkedCard is, sym (told .done) ∙ ap isGood is)
-
--- a refusal stands, whatever would come next
-pub refused-then : {r : Checked} {c : Card} {n k : ℕ} (next : ℕ → Card) → Says r c → r ≡ Refused n k → Says (Refused n k) (andThen c next)
-refused-then {r} {c} {n} {k} next told is =
-    let both = says-refused told is in
-    says (Refused n k) (sym (both .1) ∙ ap (λ x. eqb (x .number) 0) (both .0)) (sym (both .0) ∙ simp (both .1))
-
--- ---- done, then done
-pub and-then-done : (c : Card) (next : ℕ → Card) (v : ℕ) → andThen c next ≡ card 0 v → (c ≡ card 0 (c .carried)) × (next (c .carried) ≡ card 0 v)
-and-then-done c next v e = go (eqb (c .number) 0) refl e
-  where
-    go : (b : Bool) → eqb (c .number) 0 ≡ b → cond b (next (c .carried)) c ≡ card 0 v → (c ≡ card 0 (c .carried)) × (next (c .carried) ≡ card 0 v)
-    go true t q = let none = eqb-true (c .number) 0 t in (ap (λ n. card n (c .carried)) none, q)
-    go false t q = absurd (eqb-false (c .number) 0 t (ap (λ x. x .number) q))
+never : {X : Type 0} → _≡_ {A = ℕ} 0 1 → X
+never z = absurd (omega arith)
 
 -- ---- a frame that is not refused
 pub record GoodFrame (gs : List ℕ) (d : Bool) (f : List ℕ) (size : ℕ) : Type 0 where
   pub definition : GoodDefinition gs size
   pub reply : isReply f size ≡ true
   pub long : length f ≡ size + 5
-  pub filled : allZero (recordIn f size) ≡ false
-  pub dated : inRange (stampFrom d (recordIn f size)) ≡ true
+  pub filled : allZero (recordPart f size) ≡ false
+  pub dated : inRange (stampFrom d (recordPart f size)) ≡ true
 
 pub reply-long : (f : List ℕ) (size : ℕ) → isReply f size ≡ true → length f ≡ size + 5
 unfolding isReply
 reply-long f size e = eqb-true (length f) (size + 5) (and-left (eqb (length f) (size + 5)) _ e)
 
-pub frame-good : (gs : List ℕ) (d : Bool) (f : List ℕ) (size : ℕ) → frameCard gs d f ≡ card 0 size → GoodFrame gs d f size
-unfolding frameCard replyCard recordCard
-frame-good gs d f size e =
-    let both = and-then-done (judgedCard gs) (replyCard d f) size e in
-    go₁ (judgedCard gs .carried) (judged-good gs (judgedCard gs .carried) (both .0)) (isReply f (judgedCard gs .carried)) refl (both .1)
+pub frame-good : (gs : List ℕ) (d : Bool) (f : List ℕ) (size : ℕ) → frameChecked gs d f ≡ Good size → GoodFrame gs d f size
+unfolding frameChecked replyChecked recordChecked
+frame-good gs d f size e = go (judged gs) refl e
   where
-    go₃ : (n : ℕ) → GoodDefinition gs n → isReply f n ≡ true → allZero (recordIn f n) ≡ false
-        → (b : Bool) → inRange (stampFrom d (recordIn f n)) ≡ b → cond b (card 0 (length (recordIn f n))) (card 14 0) ≡ card 0 size → GoodFrame gs d f size
-    go₃ n ok reply filled true t q =
+    dated : (n : ℕ) → GoodDefinition gs n → isReply f n ≡ true → allZero (recordPart f n) ≡ false
+        → (b : Bool) → inRange (stampFrom d (recordPart f n)) ≡ b → cond b (Good (length (recordPart f n))) (Refused 14 0) ≡ Good size → GoodFrame gs d f size
+    dated n ok reply filled true t q =
         let long = reply-long f n reply in
-        let same : n ≡ size = sym (length-part f 3 n (omega arith)) ∙ ap (λ c. c .carried) q in
+        let whole : length (recordPart f n) ≡ size = cc in
+        let same : n ≡ size = sym (length-part f 3 n (omega (arith, long))) ∙ whole in
         subst (λ k. GoodFrame gs d f k) same (record { definition = ok; reply = reply; long = long; filled = filled; dated = t })
-    go₃ n ok reply filled false t q = let z : _≡_ {A = ℕ} 14 0 = ap (λ c. c .number) q in absurd (omega arith)
+    dated n ok reply filled false t q = never (cc)
 
-    go₂ : (n : ℕ) → GoodDefinition gs n → isReply f n ≡ true
-        → (b : Bool) → allZero (recordIn f n) ≡ b → cond b (card 15 0) (cond (inRange (stampFrom d (recordIn f n))) (card 0 (length (recordIn f n))) (card 14 0)) ≡ card 0 size → GoodFrame gs d f size
-    go₂ n ok reply true t q = let z : _≡_ {A = ℕ} 15 0 = ap (λ c. c .number) q in absurd (omega arith)
-    go₂ n ok reply false t q = go₃ n ok reply t (inRange (stampFrom d (recordIn f n))) refl q
+    filled : (n : ℕ) → GoodDefinition gs n → isReply f n ≡ true → (b : Bool) → allZero (recordPart f n) ≡ b
+        → cond b (Refused 15 0) (cond (inRange (stampFrom d (recordPart f n))) (Good (length (recordPart f n))) (Refused 14 0)) ≡ Good size → GoodFrame gs d f size
+    filled n ok reply true t q = never (cc)
+    filled n ok reply false t q = dated n ok reply t (inRange (stampFrom d (recordPart f n))) refl q
 
-    go₁ : (n : ℕ) → GoodDefinition gs n → (b : Bool) → isReply f n ≡ b → cond b (recordCard d (recordIn f n)) (card 14 0) ≡ card 0 size → GoodFrame gs d f size
-    go₁ n ok true t q = go₂ n ok t (allZero (recordIn f n)) refl q
-    go₁ n ok false t q = let z : _≡_ {A = ℕ} 14 0 = ap (λ c. c .number) q in absurd (omega arith)
+    replied : (n : ℕ) → GoodDefinition gs n → (b : Bool) → isReply f n ≡ b → cond b (recordChecked d (recordPart f n)) (Refused 14 0) ≡ Good size → GoodFrame gs d f size
+    replied n ok true t q = filled n ok t (allZero (recordPart f n)) refl q
+    replied n ok false t q = never (cc)
 
--- the record's part, as the code lends it
-pub record-is : (gs : List ℕ) (d : Bool) (f : List ℕ) (size : ℕ) → frameCard gs d f ≡ card 0 size → take (3 + size - 3) (drop 3 f) ≡ recordPart gs d f
-unfolding recordPart
-record-is gs d f size is = let n : 3 + size - 3 ≡ size = omega arith in simp (is, n)
+    go : (j : Judged) → judged gs ≡ j → checkedBy j d f ≡ Good size → GoodFrame gs d f size
+    go (Judged.Good n) is q = replied n (judged-good gs n is) (isReply f n) refl q
+    go (Judged.BadGroup g) is q = never (cc)
+    go Judged.Long is q = never (cc)
 
-pub length-record : (gs : List ℕ) (d : Bool) (f : List ℕ) (size : ℕ) → frameCard gs d f ≡ card 0 size → length (recordPart gs d f) ≡ size
-unfolding recordPart
-length-record gs d f size is =
-    let ok = frame-good gs d f size is in
-    simp is (length-part f 3 size (omega (arith, ok .long)))
+pub length-record : (gs : List ℕ) (d : Bool) (f : List ℕ) (size : ℕ) → GoodFrame gs d f size → length (recordPart f size) ≡ size
+length-record gs d f size ok = length-part f 3 size (omega (arith, ok .long))
 
 -- ---- a stretch that is not refused
 pub record GoodStretch (gs : List ℕ) (d : Bool) (f : List ℕ) (g size : ℕ) : Type 0 where
   pub frame : GoodFrame gs d f size
   pub from : 1 ≤ g
   pub to : g ≤ 16
-  pub points : isPoints (groupAt gs (g - 1)) ≡ true
   pub fits : stretchFrom gs g + stretchLength gs g ≤ size
 
 -- a place's stretch ends within the record
@@ -120,43 +97,46 @@ place-fits gs g size ok from to =
     let next : groupsSize gs g ≡ groupsSize gs (g - 1) + stretchLength gs g = ap (groupsSize gs) (sym here) ∙ groups-size-next gs (g - 1) in
     omega (arith, ok .sized, next, groups-size-mono gs g 16 to)
 
-pub stretch-good : (gs : List ℕ) (d : Bool) (f : List ℕ) (g size : ℕ) → stretchCard gs d f g ≡ card 0 size → GoodStretch gs d f g size
-unfolding stretchCard placeCard
-stretch-good gs d f g size e =
-    let both = and-then-done (frameCard gs d f) (placeCard gs g) size e in
-    go (frameCard gs d f .carried) (frame-good gs d f (frameCard gs d f .carried) (both .0)) (within 1 16 g) refl (both .1)
+pub stretch-good : (gs : List ℕ) (d : Bool) (f : List ℕ) (g size : ℕ) → stretchChecked gs d f g ≡ Good size → GoodStretch gs d f g size
+unfolding stretchChecked
+stretch-good gs d f g size e = go (frameChecked gs d f) refl e
   where
-    inside : (n : ℕ) → GoodFrame gs d f n → within 1 16 g ≡ true → (b : Bool) → isPoints (groupAt gs (g - 1)) ≡ b
-        → cond b (card 0 n) (card 16 0) ≡ card 0 size → GoodStretch gs d f g size
-    inside n ok place true t q =
+    inside : (n : ℕ) → GoodFrame gs d f n → within 1 16 g ≡ true → (x : Group) → placeChecked x n ≡ Good size → GoodStretch gs d f g size
+    inside n ok place Unused q = never (cc)
+    inside n ok place Bad q = never (cc)
+    inside n ok place (Points r) q =
         let from = leb-true 1 g (and-left (leb 1 g) (leb g 16) place) in
         let to = leb-true g 16 (and-right (leb 1 g) (leb g 16) place) in
-        subst (λ k. GoodStretch gs d f g k) (ap (λ c. c .carried) q)
-        (record { frame = ok; from = from; to = to; points = t; fits = place-fits gs g n (ok .definition) from to })
-    inside n ok place false t q = let z : _≡_ {A = ℕ} 16 0 = ap (λ c. c .number) q in absurd (omega arith)
+        let same : n ≡ size = cc in
+        subst (λ k. GoodStretch gs d f g k) same (record { frame = ok; from = from; to = to; fits = place-fits gs g n (ok .definition) from to })
 
-    go : (n : ℕ) → GoodFrame gs d f n → (b : Bool) → within 1 16 g ≡ b
-        → cond (isPoints (cond b (groupAt gs (g - 1)) Unused)) (card 0 n) (card 16 0) ≡ card 0 size → GoodStretch gs d f g size
-    go n ok true t q = inside n ok t (isPoints (groupAt gs (g - 1))) refl q
-    go n ok false t q = let z : _≡_ {A = ℕ} 16 0 = ap (λ c. c .number) q in absurd (omega arith)
+    named : (n : ℕ) → GoodFrame gs d f n → (b : Bool) → within 1 16 g ≡ b → placeChecked (cond b (groupAt gs (g - 1)) Unused) n ≡ Good size → GoodStretch gs d f g size
+    named n ok true t q = inside n ok t (groupAt gs (g - 1)) q
+    named n ok false t q = never (cc)
 
--- the part of the frame from a stretch's place on, as the code lends it
-pub stretch-is : (gs : List ℕ) (d : Bool) (f : List ℕ) (g size a b : ℕ) → stretchCard gs d f g ≡ card 0 size → a ≡ stretchFrom gs g → b ≡ stretchLength gs g →
-    take (3 + a + b - (3 + a)) (drop (3 + a) f) ≡ stretchPart gs d f g
-unfolding stretchPart
-stretch-is gs d f g size a b is from long =
-    let n : 3 + stretchFrom gs g + stretchLength gs g - (3 + stretchFrom gs g) ≡ stretchLength gs g = omega arith in
-    ap₂ (λ x y. take (3 + x + y - (3 + x)) (drop (3 + x) f)) from long ∙ simp (is, n)
+    go : (c : Checked) → frameChecked gs d f ≡ c → andThen c (placeChecked (groupNamed gs g)) ≡ Good size → GoodStretch gs d f g size
+    go (Good n) is q = named n (frame-good gs d f n is) (within 1 16 g) refl q
+    go (Refused number carried) is q = never (cc)
 
-pub length-stretch : (gs : List ℕ) (d : Bool) (f : List ℕ) (g size : ℕ) → stretchCard gs d f g ≡ card 0 size → length (stretchPart gs d f g) ≡ stretchLength gs g
-unfolding stretchPart
-length-stretch gs d f g size is =
-    let ok = stretch-good gs d f g size is in
-    simp is (length-part f (3 + stretchFrom gs g) (stretchLength gs g) (omega (arith, ok .fits, ok .frame .long)))
+-- the record of such a stretch, as it is handed on
+pub lent-record : (gs : List ℕ) (d : Bool) (f : List ℕ) (g size from : ℕ) → GoodStretch gs d f g size → from ≡ stretchFrom gs g → LentRecord gs (recordPart f size) g from
+lent-record gs d f g size from ok starts =
+    let long = length-record gs d f size (ok .frame) in
+    record {
+      definition = ok .frame .definition .list;
+      least = ok .from;
+      most = ok .to;
+      starts = starts;
+      inside = rw long (ok .fits);
+      short = rw long (ok .frame .definition .most);
+    }
+
+pub length-stretch : (gs bs : List ℕ) (g from : ℕ) → LentRecord gs bs g from → length (stretchPart gs bs g) ≡ stretchLength gs g
+length-stretch gs bs g from lent = length-part bs (stretchFrom gs g) (stretchLength gs g) (lent .inside)
 
 -- the place of a stretch that is not refused
-pub place-is : (gs : List ℕ) (g : ℕ) → 1 ≤ g → g ≤ 16 → placeOf gs g ≡ groupAt gs (g - 1)
-place-is gs g from to = simp (le-leb 1 g from, le-leb g 16 to)
+pub named-is : (gs : List ℕ) (g : ℕ) → 1 ≤ g → g ≤ 16 → groupNamed gs g ≡ groupAt gs (g - 1)
+named-is gs g from to = simp (le-leb 1 g from, le-leb g 16 to)
 
 -- ---- numbers from bytes
 pub two-bytes : (s : List ℕ) (i : ℕ) → i + 2 ≤ length s → numberOf (take 2 (drop i s)) ≡ wordAt s i
@@ -170,21 +150,18 @@ four-bytes s i fits =
     ap numberOf (part-tabulate s i 4 fits) ∙ rw (add-zero, next) (omega arith)
 
 -- ---- a point's value in a stretch, by kind
--- the own bytes of point number e of a stretch of a kind
-abbrev pub ownBytes : Kind → List ℕ → ℕ → List ℕ
-ownBytes k stretch e = cond (eqb (kindSize k) 0) (flagAt stretch 0 e ∷ []) (take (kindSize k) (drop (e * kindSize k) stretch))
-
-pub value-by-kind : (r : Row) (stretch : List ℕ) (e : ℕ) (k : Kind) → r .kind ≡ k → r .size ≡ kindSize k → valueInStretch r stretch e ≡ valueOf k (ownBytes k stretch e)
+-- a kind of whole bytes
+pub value-of : (r : Row) (stretch : List ℕ) (e : ℕ) (k : Kind) → r .kind ≡ k → r .size ≡ kindSize k → ltb 0 (kindSize k) ≡ true →
+    valueInStretch r stretch e ≡ valueOf k (take (kindSize k) (drop (e * r .size) stretch))
 unfolding valueInStretch bytesInStretch
-value-by-kind r stretch e k is size =
-    ap (λ z. valueOf (r .kind) (cond (eqb z 0) (flagAt stretch 0 e ∷ []) (take z (drop (e * z) stretch)))) size
-    ∙ ap (λ x. valueOf x (ownBytes k stretch e)) is
+value-of r stretch e k is size wide =
+    let some : r .size ≡ 0 → ⊥ = λ none. omega (arith, ltb-true 0 (kindSize k) wide, size, none) in
+    simp (ne-eqb (r .size) 0 some) (ap₂ (λ x z. valueOf x (take z (drop (e * r .size) stretch))) is size)
 
--- where the point lies, by kind
-pub inside-by-kind : (r : Row) (stretch : List ℕ) (from e : ℕ) (k : Kind) → r .kind ≡ k → LentPoint r stretch from e →
-    cond (eqb (kindSize k) 0) (e + 1) ((e + 1) * kindSize k) ≤ cond (eqb (kindSize k) 0) (8 * length stretch) (length stretch)
-inside-by-kind r stretch from e k is lent =
-    subst (λ z. cond (eqb z 0) (e + 1) ((e + 1) * z) ≤ cond (eqb z 0) (8 * length stretch) (length stretch)) (lent .kinded ∙ ap kindSize is) (lent .inside)
+-- single bits
+pub flag-of : (r : Row) (stretch : List ℕ) (e : ℕ) → r .kind ≡ Boolean → r .size ≡ 0 → valueInStretch r stretch e ≡ flag (eqb (flagAt stretch 0 e) 1)
+unfolding valueInStretch bytesInStretch
+flag-of r stretch e is bits = simp (eq-eqb (r .size) 0 bits) (ap (λ x. valueOf x (flagAt stretch 0 e ∷ [])) is)
 
 -- a point of a group lies in the group's stretch
 pub lent-point : (r : Row) (stretch : List ℕ) (from p n e : ℕ) → LentStretch stretch from p n → groupOf p n ≡ Points r → 1 ≤ e → e ≤ n →
@@ -194,11 +171,23 @@ lent-point r stretch from p n e lent is some most =
     let sized : length stretch ≡ cond (isBits r) (packedSize n) (n * r .size) = lent .sized ∙ ap (λ g. groupSize g n) is in
     let here : e - 1 + 1 ≡ e = omega arith in
     record {
-      kinded = lookup-size p r (group-inside p n r is .0);
-      inside = rw here (go (isBits r) sized);
+      point = p;
+      looked = group-inside p n r is .0;
+      bits = λ test. let packed : length stretch ≡ packedSize n = simp test at sized in omega (arith, packed, some, most);
+      bytes = λ test. let wide : length stretch ≡ n * r .size = simp test at sized in rw (here, wide) (mul-le-mul-right (r .size) most);
       near = lent .near;
     }
-  where
-    go : (b : Bool) → length stretch ≡ cond b (packedSize n) (n * r .size) → cond b e (e * r .size) ≤ cond b (8 * length stretch) (length stretch)
-    go true long = omega arith
-    go false long = rw long (mul-le-mul-right (r .size) most)
+
+-- the row's size is its kind's; where its values have whole bytes, the point's own lie in the stretch, and so does the place of any
+pub lent-size : (r : Row) (stretch : List ℕ) (from e : ℕ) (k : Kind) → LentPoint r stretch from e → r .kind ≡ k → r .size ≡ kindSize k
+lent-size r stretch from e k lent is = lookup-size (lent .point) r (lent .looked) ∙ ap kindSize is
+
+pub lent-bytes : (r : Row) (stretch : List ℕ) (from e : ℕ) (k : Kind) → LentPoint r stretch from e → r .kind ≡ k → ltb 0 (kindSize k) ≡ true →
+    e * r .size + kindSize k ≤ length stretch
+lent-bytes r stretch from e k lent is wide =
+    let size = lent-size r stretch from e k lent is in
+    let some : r .size ≡ 0 → ⊥ = λ none. omega (arith, ltb-true 0 (kindSize k) wide, size, none) in
+    omega (arith, lent .bytes (ne-eqb (r .size) 0 some), add-mul e 1 (r .size), size)
+
+pub lent-place : (r : Row) (stretch : List ℕ) (from e : ℕ) → LentPoint r stretch from e → e * r .size ≤ length stretch
+lent-place r stretch from e lent = ⊎-elim (λ none. rw none (omega arith)) (λ some. omega (arith, lent .bytes (ne-eqb (r .size) 0 some), add-mul e 1 (r .size))) (eq-or-not (r .size) 0)

@@ -1,20 +1,17 @@
--- What each case of the enum `Checked` is on the service card, and when it says what a card says.
-use mathlib.Core.Path.{_≡_}
-use mathlib.Core.Bool.{Bool, true, false}
-use lib.Dec.{eqb}
-use Rattle.points.specs.Card.{Card, card}
+-- What each case of the enum `Checked` is on the service card: done, with the record's size beside it, or a refusal.
+use Prim.Native.Nat.{ℕ}
+use Rattle.basics.specs.Card.{Card, card, doneCard}
 use Rattle.reader.specs.declared.frame.Checked.{Checked}
 use Rattle.reader.specs.declared.frame.Checked.the-variants.{Good, Refused}
 
 abbrev pub checkedCard : Checked → Card
-checkedCard (Good size) = card 0 size
+checkedCard (Good size) = doneCard
 checkedCard (Refused number carried) = card number carried
 
-abbrev pub isGood : Checked → Bool
-isGood (Good size) = true
-isGood (Refused number carried) = false
+abbrev pub refused : Card → Checked
+refused c = Refused (c .number) (c .carried)
 
--- the answer is that card, and is done exactly where the card's number is 0
-pub record Says (r : Checked) (c : Card) : Type 0 where
-  pub card : checkedCard r ≡ c
-  pub done : isGood r ≡ eqb (c .number) 0
+-- a refusal stands; else what comes next, by the record's size
+abbrev pub andThen : Checked → (ℕ → Checked) → Checked
+andThen (Good size) next = next size
+andThen (Refused number carried) next = Refused number carried

@@ -1,60 +1,72 @@
 -- Document 01, "Reading end" and rows 7, 8, 14, 15 and 16 of the service card.
 -- gs is the list of group numbers, of any length; d says whether the day stands first; f is the reply frame, of any bytes.
-use mathlib.Core.List.{List, []}
-use mathlib.Core.Bool.{Bool, true, false, cond, _&&_}
+use mathlib.Core.List.{List}
+use mathlib.Core.Bool.{Bool, cond, _&&_}
 use Prim.Native.Nat.{ℕ, _+_, _-_}
 use lib.Dec.{eqb}
 use lib.ListN.{length, getD, take, drop}
+use Rattle.basics.specs.Card.{card, garbledNo, emptyNo, beyondNo}
 use Rattle.basics.specs.Lists.{allZero}
+use Rattle.basics.specs.Numbers.{within}
 use Rattle.modbus.specs.Crc.{endsInCrc}
+use Rattle.modbus.specs.Frame.{goodUnit}
 use Rattle.points.specs.declared.groups.Group.{Group}
 use Rattle.points.specs.declared.groups.Group.the-variants.{Unused, Points, Bad}
-use Rattle.points.specs.Card.{Card, card}
-use Rattle.points.specs.Groups.{judgedCard, groupAt, countAt, groupSize, groupsSize}
-use Rattle.basics.specs.Numbers.{within}
+use Rattle.points.specs.declared.groups.Judged.{Judged}
+use Rattle.points.specs.declared.groups.Judged.the-variants as Judged
+use Rattle.points.specs.Card.{cardOf}
+use Rattle.points.specs.Groups.{judged, groupAt, countAt, groupSize, groupsSize}
 use Rattle.records.specs.Stamp.{inRange, stampFrom}
+use Rattle.reader.specs.declared.frame.Checked.{Checked}
+use Rattle.reader.specs.declared.frame.Checked.the-variants.{Good}
+use Rattle.reader.specs.Checked.{refused, andThen}
 
+-- ---- the frame and its record
 -- a 03 reply with the right CRC, unit 1-247 and this record size, as byte count, the frame 5 bytes longer
 unfoldable pub isReply : List ℕ → ℕ → Bool
 isReply f size =
     eqb (length f) (size + 5)
-    && (within 1 247 (getD f 0 0) && (eqb (getD f 1 0) 3 && (eqb (getD f 2 0) size && endsInCrc f)))
+    && (goodUnit (getD f 0 0) && (eqb (getD f 1 0) 3 && (eqb (getD f 2 0) size && endsInCrc f)))
 
 -- the record is the part of the frame that starts at byte 3
-abbrev pub recordIn : List ℕ → ℕ → List ℕ
-recordIn f size = take size (drop 3 f)
+abbrev pub recordAt : ℕ
+recordAt = 3
 
--- Empty (15) where the record is all zeros, Garbled (14) where its stamp is out of range; else done, with the record's size
-unfoldable pub recordCard : Bool → List ℕ → Card
-recordCard d bs = cond (allZero bs) (card 15 0) (cond (inRange (stampFrom d bs)) (card 0 (length bs)) (card 14 0))
+abbrev pub recordPart : List ℕ → ℕ → List ℕ
+recordPart f size = take size (drop recordAt f)
 
--- Garbled (14) where the frame is no such reply
-unfoldable pub replyCard : Bool → List ℕ → ℕ → Card
-replyCard d f size = cond (isReply f size) (recordCard d (recordIn f size)) (card 14 0)
+-- Empty where the record is all zeros, Garbled where its stamp is out of range; else done
+unfoldable pub recordChecked : Bool → List ℕ → Checked
+recordChecked d bs =
+    cond (allZero bs) (refused (card emptyNo 0))
+    (cond (inRange (stampFrom d bs)) (Good (length bs)) (refused (card garbledNo 0)))
 
--- a refusal stands; else what comes next, by the number that "done" carries
-abbrev pub andThen : Card → (ℕ → Card) → Card
-andThen c next = cond (eqb (c .number) 0) (next (c .carried)) c
+-- Garbled where the frame is no such reply
+unfoldable pub replyChecked : Bool → List ℕ → ℕ → Checked
+replyChecked d f size = cond (isReply f size) (recordChecked d (recordPart f size)) (refused (card garbledNo 0))
 
--- Group (7) and Long (8) first, then the frame; done carries the record's size
-unfoldable pub frameCard : List ℕ → Bool → List ℕ → Card
-frameCard gs d f = andThen (judgedCard gs) (replyCard d f)
+-- Group and Long first, then the frame
+abbrev pub checkedBy : Judged → Bool → List ℕ → Checked
+checkedBy (Judged.Good size) d f = replyChecked d f size
+checkedBy (Judged.BadGroup g) d f = refused (cardOf (Judged.BadGroup g))
+checkedBy Judged.Long d f = refused (cardOf Judged.Long)
 
--- the group at place g, counted from 1; a g that is no place names nothing, as an unused place does
-abbrev pub placeOf : List ℕ → ℕ → Group
-placeOf gs g = cond (within 1 16 g) (groupAt gs (g - 1)) Unused
+unfoldable pub frameChecked : List ℕ → Bool → List ℕ → Checked
+frameChecked gs d f = checkedBy (judged gs) d f
 
-abbrev pub isPoints : Group → Bool
-isPoints Unused = false
-isPoints Bad = false
-isPoints (Points r) = true
+-- ---- the stretch of place g, counted from 1, unused places too
+-- the group that g names; a g that is no place names nothing, as an unused place does
+abbrev pub groupNamed : List ℕ → ℕ → Group
+groupNamed gs g = cond (within 1 16 g) (groupAt gs (g - 1)) Unused
 
--- Beyond (16) where g names nothing; done carries the record's size
-unfoldable pub placeCard : List ℕ → ℕ → ℕ → Card
-placeCard gs g size = cond (isPoints (placeOf gs g)) (card 0 size) (card 16 0)
+-- Beyond where g names nothing
+abbrev pub placeChecked : Group → ℕ → Checked
+placeChecked Unused size = refused (card beyondNo 0)
+placeChecked Bad size = refused (card beyondNo 0)
+placeChecked (Points r) size = Good size
 
-unfoldable pub stretchCard : List ℕ → Bool → List ℕ → ℕ → Card
-stretchCard gs d f g = andThen (frameCard gs d f) (placeCard gs g)
+unfoldable pub stretchChecked : List ℕ → Bool → List ℕ → ℕ → Checked
+stretchChecked gs d f g = andThen (frameChecked gs d f) (placeChecked (groupNamed gs g))
 
 -- where the stretch of place g starts in the record, and its length
 abbrev pub stretchFrom : List ℕ → ℕ → ℕ
@@ -63,12 +75,6 @@ stretchFrom gs g = 6 + groupsSize gs (g - 1)
 abbrev pub stretchLength : List ℕ → ℕ → ℕ
 stretchLength gs g = groupSize (groupAt gs (g - 1)) (countAt gs (g - 1))
 
--- a record or stretch refused is empty
-abbrev pub part : Card → ℕ → ℕ → List ℕ → List ℕ
-part c from n f = cond (eqb (c .number) 0) (take n (drop from f)) []
-
-unfoldable pub recordPart : List ℕ → Bool → List ℕ → List ℕ
-recordPart gs d f = part (frameCard gs d f) 3 (frameCard gs d f .carried) f
-
-unfoldable pub stretchPart : List ℕ → Bool → List ℕ → ℕ → List ℕ
-stretchPart gs d f g = part (stretchCard gs d f g) (3 + stretchFrom gs g) (stretchLength gs g) f
+-- the stretch is that part of the record bs
+abbrev pub stretchPart : List ℕ → List ℕ → ℕ → List ℕ
+stretchPart gs bs g = take (stretchLength gs g) (drop (stretchFrom gs g) bs)

@@ -1,4 +1,4 @@
-pub mod Frame
 pub mod Checked
+pub mod Frame
 pub mod Answers
 pub mod Lent

@@ -6,12 +6,15 @@ use crate::answers::PointAnswer;
 use crate::answers::StampAnswer;
 use crate::answers::Value;
 use crate::frame::Checked;
+use crate::frame::RECORD_AT;
 use crate::frame::check;
+use crate::frame::record_of;
 use crate::stretch::check_stretch;
 use crate::stretch::stretch_from;
-use crate::stretch::stretch_length;
+use crate::stretch::stretch_of;
 use crate::value::bits_of;
 use crate::value::point_of;
+use basics::card;
 use records::stamp::Stamp;
 use records::stamp::stamp_from;
 
@@ -28,10 +31,10 @@ pub extern "C" fn windrow_reader_record(groups: &[u16], day_first: bool, frame: 
             length: 0,
         },
         Checked::Good(size) => PartAnswer {
-            number: 0,
+            number: card::DONE,
             carried: 0,
-            place: 3,
-            length: size as u32,
+            place: RECORD_AT as u32,
+            length: record_of(frame, size).len() as u32,
         },
     }
 }
@@ -55,10 +58,9 @@ pub extern "C" fn windrow_reader_stamp(groups: &[u16], day_first: bool, frame: &
             },
         },
         Checked::Good(size) => {
-            let end = 3 + size;
-            let stamp = stamp_from(&frame[3..end], day_first);
+            let stamp = stamp_from(record_of(frame, size), day_first);
             StampAnswer {
-                number: 0,
+                number: card::DONE,
                 carried: 0,
                 stamp,
             }
@@ -83,13 +85,14 @@ pub extern "C" fn windrow_reader_stretch(
             place: 0,
             length: 0,
         },
-        Checked::Good(_) => {
-            let from = 3 + stretch_from(groups, g);
+        Checked::Good(size) => {
+            let from = stretch_from(groups, g);
+            let stretch = stretch_of(groups, record_of(frame, size), g, from);
             PartAnswer {
-                number: 0,
+                number: card::DONE,
                 carried: 0,
-                place: from as u32,
-                length: stretch_length(groups, g) as u32,
+                place: (RECORD_AT + from) as u32,
+                length: stretch.len() as u32,
             }
         }
     }
@@ -100,7 +103,7 @@ fn plain_answer(kind: u32, bits: u32) -> PointAnswer
     ensures { λ r. ⌜ r ≡ plainAnswer kind bits ⌝ }
 {
     PointAnswer {
-        number: 0,
+        number: card::DONE,
         carried: 0,
         kind,
         bits,
@@ -119,7 +122,7 @@ fn answer_of(value: Value) -> PointAnswer
         Value::Int32(z) => plain_answer(3, bits_of(z)),
         Value::Float(bits) => plain_answer(4, bits),
         Value::Text { place, length } => PointAnswer {
-            number: 0,
+            number: card::DONE,
             carried: 0,
             kind: 5,
             bits: 0,

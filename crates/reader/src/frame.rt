@@ -1,10 +1,10 @@
 // The reply frame and the record in it, document 01, "Reading end" and rows 7, 8, 14 and 15 of the service card.
 ghost use mathlib.Core.Path.{_≡_};
-ghost use Prim.Native.Nat.{_≤_};
+ghost use Prim.Native.Nat.{_+_, _≤_};
 ghost use lib.ListN.{length};
 ghost use Rattle.basics.specs.Lists.{allZero};
-ghost use Rattle.reader.specs.Frame.{isReply, recordCard, replyCard, frameCard, recordPart};
-ghost use Rattle.reader.specs.Checked.{Says};
+ghost use Rattle.reader.specs.Frame.{isReply, recordPart, recordChecked, replyChecked, frameChecked};
+use basics::card;
 use basics::is_within;
 use modbus::crc::ends_in_crc;
 use points::Judged;
@@ -26,7 +26,7 @@ fn is_reply(frame: &[u8], size: usize) -> bool
     if frame.len() != size + 5 {
         return false;
     }
-    if !is_within(1, 247, frame[0]) {
+    if !is_within(1, 247, frame[0] as u32) {
         return false;
     }
     if frame[1] != 3 {
@@ -52,14 +52,26 @@ fn all_zero(bytes: &[u8]) -> bool
     true
 }
 
-// Checks a record: Empty (15), or Garbled (14) for its stamp.
+// The byte of a reply at which its record starts.
+pub const RECORD_AT: usize = 3;
+
+// The record: the part of the frame that starts at byte 3.
+pub fn record_of(frame: &[u8], size: usize) -> &[u8]
+    requires { ⌜ (3 + size ≤ length (now frame)) × (size ≤ 250) ⌝ }
+    ensures { λ r. ⌜ now r ≡ recordPart (now (frame .entry)) size ⌝ }
+{
+    let end = RECORD_AT + size;
+    &frame[RECORD_AT..end]
+}
+
+// Checks a record: Empty, or Garbled for its stamp.
 fn check_record(bytes: &[u8], day_first: bool) -> Checked
     requires { ⌜ 6 ≤ length (now bytes) ⌝ }
-    ensures { λ r. ⌜ Says r (recordCard «day_first» (now (bytes .entry))) ⌝ }
+    ensures { λ r. ⌜ r ≡ recordChecked «day_first» (now (bytes .entry)) ⌝ }
 {
     if all_zero(bytes) {
         return Checked::Refused {
-            number: 15,
+            number: card::EMPTY,
             carried: 0,
         };
     }
@@ -67,55 +79,38 @@ fn check_record(bytes: &[u8], day_first: bool) -> Checked
         return Checked::Good(bytes.len());
     }
     Checked::Refused {
-        number: 14,
+        number: card::GARBLED,
         carried: 0,
     }
 }
 
-// Checks a frame for a record of this size, and the record, which is the part that starts at byte 3.
+// Checks a frame for a record of this size, and the record.
 fn check_reply(frame: &[u8], day_first: bool, size: usize) -> Checked
     requires { ⌜ (6 ≤ size) × (size ≤ 250) ⌝ }
-    ensures { λ r. ⌜ Says r (replyCard «day_first» (now (frame .entry)) size) ⌝ }
+    ensures { λ r. ⌜ r ≡ replyChecked «day_first» (now (frame .entry)) size ⌝ }
 {
     if is_reply(frame, size) {
-        let end = 3 + size;
-        return check_record(&frame[3..end], day_first);
+        return check_record(record_of(frame, size), day_first);
     }
     Checked::Refused {
-        number: 14,
+        number: card::GARBLED,
         carried: 0,
     }
 }
 
 // Checks groups and frame: the lowest number that applies, or done with the record's size.
 pub fn check(groups: &[u16], day_first: bool, frame: &[u8]) -> Checked
-    ensures { λ r. ⌜ Says r (frameCard (now (groups .entry)) «day_first» (now (frame .entry))) ⌝ }
+    ensures { λ r. ⌜ r ≡ frameChecked (now (groups .entry)) «day_first» (now (frame .entry)) ⌝ }
 {
     match judge(groups) {
         Judged::BadGroup(g) => Checked::Refused {
-            number: 7,
+            number: card::GROUP,
             carried: g as u32,
         },
         Judged::Long => Checked::Refused {
-            number: 8,
+            number: card::LONG,
             carried: 0,
         },
         Judged::Good(size) => check_reply(frame, day_first, size),
-    }
-}
-
-// The record: the part of the frame that starts at byte 3, or an empty part where it is refused.
-pub fn record_of<'a, 'b>(groups: &'a [u16], day_first: bool, frame: &'b [u8]) -> &'b [u8]
-    ensures { λ r. ⌜ now r ≡ recordPart (now (groups .entry)) «day_first» (now (frame .entry)) ⌝ }
-{
-    match check(groups, day_first, frame) {
-        Checked::Refused {
-            number: _,
-            carried: _,
-        } => &frame[..0],
-        Checked::Good(size) => {
-            let end = 3 + size;
-            &frame[3..end]
-        }
     }
 }

@@ -11,9 +11,12 @@ ghost use Rattle.reader.specs.Answers.{bits32, answered, pointIn, pointV
 ghost use Rattle.reader.specs.Lent.{LentPoint, LentStretch};
 use crate::answers::Value;
 use crate::frame::Checked;
+use crate::frame::RECORD_AT;
+use crate::frame::record_of;
 use crate::stretch::check_stretch;
 use crate::stretch::stretch_from;
-use crate::stretch::stretch_length;
+use crate::stretch::stretch_of;
+use basics::card;
 use modbus::word::word_at;
 use points::Group;
 use points::Kind;
@@ -73,29 +76,29 @@ fn value_at(row: Row, stretch: &[u8], from: usize, e: usize) -> Value
     ensures { λ r. ⌜ r ≡ answered (valueInStretch row (now (stretch .entry)) e) (from + e * row .size) ⌝ }
 {
     let kind = row.kind;
+    let size = row.size as usize;
+    let at = e * size;
+    let text = Value::Text {
+        place: (from + at) as u32,
+        length: size as u32,
+    };
     match kind {
         Kind::Boolean => Value::Flag(flag_at(stretch, e)),
-        Kind::Int16 => Value::Int16(signed16(word_at(stretch, e * 2))),
-        Kind::Int32 => Value::Int32(signed32(long_at(stretch, e * 4))),
-        Kind::Float => Value::Float(long_at(stretch, e * 4)),
-        Kind::Text8 => Value::Text {
-            place: (from + e * 8) as u32,
-            length: 8,
-        },
-        Kind::Text16 => Value::Text {
-            place: (from + e * 16) as u32,
-            length: 16,
-        },
+        Kind::Int16 => Value::Int16(signed16(word_at(stretch, at))),
+        Kind::Int32 => Value::Int32(signed32(long_at(stretch, at))),
+        Kind::Float => Value::Float(long_at(stretch, at)),
+        Kind::Text8 => text,
+        Kind::Text16 => text,
     }
 }
 
-// Point e, counted from 1, of the stretch of the group of `count` points from `point` on; Beyond (16) where it names nothing.
+// Point e, counted from 1, of the stretch of the group of `count` points from `point` on; Beyond where it names nothing.
 fn point_in(stretch: &[u8], from: usize, point: u16, count: u16, e: u32) -> Value
     requires { ⌜ LentStretch (now stretch) from point count ⌝ }
     ensures { λ r. ⌜ r ≡ pointIn (groupOf point count) (now (stretch .entry)) from count e ⌝ }
 {
     let beyond = Value::Refused {
-        number: 16,
+        number: card::BEYOND,
         carried: 0,
     };
     match group_of(point, count) {
@@ -119,11 +122,17 @@ pub fn point_of(groups: &[u16], day_first: bool, frame: &[u8], g: u32, e: u32) -
 {
     match check_stretch(groups, day_first, frame, g) {
         Checked::Refused { number, carried } => Value::Refused { number, carried },
-        Checked::Good(_) => {
+        Checked::Good(size) => {
             let i = (g - 1) as usize;
-            let from = 3 + stretch_from(groups, g);
-            let end = from + stretch_length(groups, g);
-            point_in(&frame[from..end], from, groups[2 * i], groups[2 * i + 1], e)
+            let from = stretch_from(groups, g);
+            let stretch = stretch_of(groups, record_of(frame, size), g, from);
+            point_in(
+                stretch,
+                RECORD_AT + from,
+                groups[2 * i],
+                groups[2 * i + 1],
+                e,
+            )
         }
     }
 }

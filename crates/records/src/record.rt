@@ -5,7 +5,7 @@ ghost use lib.ListN.{length};
 ghost use Rattle.basics.specs.Lists.{tabulate};
 ghost use Rattle.points.specs.declared.groups.Group.the-variants.{Points};
 ghost use Rattle.points.specs.Groups.{groupsSize, recordSize};
-ghost use Rattle.records.specs.Capture.{textByte, storedByte, valueByte, capturedPoints, captured};
+ghost use Rattle.records.specs.Capture.{textByte, storedByte, valueByte, capturedPoints, capturedGroup};
 ghost use Rattle.records.specs.Record.{capturedGroups, recordOf};
 ghost use Rattle.records.specs.Lent.{LentGroup, LentPlace, Placed, LentDefinition};
 use crate::flags::write_flags;
@@ -69,7 +69,7 @@ fn write_points(part: &mut [u8], table: &[u8], row: Row, point: u16, count: u16)
 // Writes one group into a part of its size; an unused group's is empty.
 pub fn write_group(part: &mut [u8], table: &[u8], group: Group, point: u16, count: u16)
     requires { ⌜ LentGroup (now part) (now table) group point count ⌝ }
-    ensures { λ _. ⌜ now (part .exit) ≡ captured (now (table .entry)) group point count ⌝ }
+    ensures { λ _. ⌜ now (part .exit) ≡ capturedGroup (now (table .entry)) group point count ⌝ }
 {
     match group {
         Group::Unused => {}

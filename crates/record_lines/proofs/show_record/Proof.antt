@@ -5,7 +5,6 @@ use native.Mathlib.Omega.{arith}
 use borrow.Author.Needs.{needs}
 use lib.Seq.{length-take-le}
 use lib.ListN.{length-append}
-use Rattle.points.specs.Card.{cardOf}
 use Rattle.points.proofs.Laws.{GoodDefinition, judged-good}
 use Rattle.record_lines.proofs.show_record.Statement.{statement}
 use Rattle.record_lines.proofs.show_record.Tie as tie
@@ -17,7 +16,7 @@ enum-known-size : tie.Need-enum-known-size
 enum-known-size c = search needs
 
 good : (c : tie.After-size) → GoodDefinition (c .before .before .before .before .before .args .groups .now) (c .size .given .0 .0)
-good c = judged-good _ _ (sym (c .before .before .judge .ensures) ∙ ap cardOf (c .size .given .1))
+good c = judged-good _ _ (sym (c .before .before .judge .ensures) ∙ c .size .given .1)
 
 slice-aggregate-write-all : tie.Need-slice-aggregate-write-all
 slice-aggregate-write-all c = search needs

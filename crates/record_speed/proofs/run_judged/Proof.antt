@@ -4,7 +4,6 @@ use Prim.Native.Nat.{_-_}
 use lib.Seq.{length-take-le}
 use borrow.Author.Needs.{needs}
 use Rattle.points.proofs.Laws.{judged-good}
-use Rattle.points.specs.Card.{cardOf}
 use Rattle.record_speed.proofs.run_judged.Statement.{statement}
 use Rattle.record_speed.proofs.run_judged.Tie as tie
 
@@ -36,7 +35,7 @@ run-requires : tie.Need-run-requires
 run-requires c κs =
     let s = c .before .before .before .before .before .before .before .before .before .before .before .args in
     let size = c .before .before .before .before .size .given in
-    let good = judged-good _ _ (sym (c .before .before .before .before .before .before .judge .ensures) ∙ ap cardOf (size .1)) in
+    let good = judged-good _ _ (sym (c .before .before .before .before .before .before .judge .ensures) ∙ size .1) in
     record {
       lent = record { sized = length-take-le (size .0 .0) (s .buffer .now) (c .before .before .if2 .left) ∙ good .sized; whole = c .before .before .before .before .before .before .before .if1 .left };
       definition = good .list;

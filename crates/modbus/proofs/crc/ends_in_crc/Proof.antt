@@ -10,9 +10,6 @@ use Rattle.modbus.specs.Crc.{endsInCrc}
 use Rattle.modbus.proofs.Laws.{last-two}
 use Rattle.modbus.proofs.crc.ends_in_crc.Statement.{statement}
 use Rattle.modbus.proofs.crc.ends_in_crc.Tie as tie
-use Rattle.modbus.proofs.crc.ends_in_crc.Reads as reads
-use Rattle.modbus.proofs.crc.ends_in_crc.Lts as lts
-use Rattle.modbus.proofs.crc.crc_of.Reads as crc-of-reads
 
 -- src/crc.rt:45:9
 returns : tie.Need-returns

@@ -7,8 +7,6 @@ use borrow.Author.Needs.{needs}
 use Rattle.modbus.specs.Crc.{crcShift, crcShifts, crcByte}
 use Rattle.modbus.proofs.crc.with_byte.Statement.{statement}
 use Rattle.modbus.proofs.crc.with_byte.Tie as tie
-use Rattle.modbus.proofs.crc.with_byte.Reads as reads
-use Rattle.modbus.proofs.crc.with_byte.Lts as lts
 
 abbrev Inv-loop : tie.InvT-loop
 Inv-loop c b sum₀ k₀ sum k = (k ≤ 8) × (sum ≡ crcShifts k sum₀)

@@ -7,8 +7,6 @@ use Rattle.basics.proofs.Tests.{product-fits}
 use Rattle.points.specs.Table.{pointsSize}
 use Rattle.points.proofs.table.points_size.Statement.{statement}
 use Rattle.points.proofs.table.points_size.Tie as tie
-use Rattle.points.proofs.table.points_size.Reads as reads
-use Rattle.points.proofs.table.points_size.Lts as lts
 
 add-result : tie.Need-add-result
 add-result c = search needs

@@ -1,12 +1,12 @@
 -- `exports::windrow_reader_stamp` meets its contract. Assumes nothing.
 use mathlib.Core.Path.{sym, ap, _∙_}
-use Prim.Native.Nat.{_-_}
 use native.Mathlib.Omega.{arith}
-use lib.Dec.{eqb}
-use borrow.Author.Needs.{needs}
+use lib.ListN.{length}
+use Rattle.basics.specs.Card.{doneCard}
 use Rattle.records.specs.Stamp.{stampFrom}
-use Rattle.reader.specs.Answers.{stampAnswer}
-use Rattle.reader.proofs.Laws.{says-good, says-refused, frame-good, record-is, length-record}
+use Rattle.reader.specs.Answers.{stampTold, stampFound, stampAnswer}
+use Rattle.reader.proofs.Laws.{GoodFrame, frame-good, length-record}
+use borrow.Author.Needs.{needs}
 use Rattle.reader.proofs.exports.windrow_reader_stamp.Statement.{statement}
 use Rattle.reader.proofs.exports.windrow_reader_stamp.Tie as tie
 
@@ -19,34 +19,31 @@ enum-known-number c = search needs
 enum-known-size : tie.Need-enum-known-size
 enum-known-size c = search needs
 
-add-end : tie.Need-add-end
-add-end c = let is = says-good (c .before .before .before .check .ensures) (c .before .size .given .1) in omega (arith, frame-good _ _ _ _ is .definition .most)
+-- the frame is good where its record is used
+good : (c : tie.After-known-told2) → let s = c .before .before .before .before .before .before .args in
+    GoodFrame (s .groups .now) (s .day-first) (s .frame .now) (c .before .size .given .0 .0)
+good c = frame-good _ _ _ _ (sym (c .before .before .before .check .ensures) ∙ c .before .size .given .1)
 
-sub-stamp-from : tie.Need-sub-stamp-from
-sub-stamp-from c = search needs
-
-part-stamp-from-start : tie.Need-part-stamp-from-start
-part-stamp-from-start c = search needs
-
-part-stamp-from-end : tie.Need-part-stamp-from-end
-part-stamp-from-end c = let is = says-good (c .before .before .before .check .ensures) (c .before .size .given .1) in omega (arith, frame-good _ _ _ _ is .long)
+record-of-requires : tie.Need-record-of-requires
+record-of-requires c κs = let ok = good c in (omega (arith, ok .long), ok .definition .most)
 
 stamp-from-requires : tie.Need-stamp-from-requires
 stamp-from-requires c κs =
-    let is = says-good (c .before .before .before .before .check .ensures) (c .before .before .size .given .1) in
-    rw (record-is _ _ _ _ is) (omega (arith, length-record _ _ _ _ is, frame-good _ _ _ _ is .definition .least))
+    let ok = good (c .before) in
+    omega (arith, ap length (c .record-of .ensures) ∙ length-record _ _ _ _ ok, ok .definition .least)
 
 returns : tie.Need-returns
 unfolding stampAnswer
-returns c = let both = says-refused (c .before .before .before .check .ensures) (c .before .number .given .1) in simp (both .0, sym (ap (λ x. eqb (x .number) 0) (both .0)) ∙ both .1)
+returns c =
+    let s = c .before .before .before .before .before .before in
+    ap (λ x. stampFound x (s .args .day-first) (s .args .frame .now)) (sym (c .before .number .given .1) ∙ c .before .before .before .check .ensures)
 
 returns-2 : tie.Need-returns-2
 unfolding stampAnswer
 returns-2 c =
-    let is = says-good (c .before .before .before .before .before .check .ensures) (c .before .before .before .size .given .1) in
-    let s = c .before .before .before .before .before .before .before .before .args in
-    let stamp = c .stamp-from .ensures ∙ ap (stampFrom (s .day-first)) (record-is _ _ _ _ is) in
-    simp (is, stamp)
+    let s = c .before .before .before .before .before .before .before .before in
+    ap (stampTold doneCard) (c .stamp-from .ensures ∙ ap (stampFrom (s .args .day-first)) (c .before .record-of .ensures))
+    ∙ ap (λ x. stampFound x (s .args .day-first) (s .args .frame .now)) (sym (c .before .before .before .size .given .1) ∙ c .before .before .before .before .before .check .ensures)
 
 pub windrow-reader-stamp-spec : {M : Type 1} → statement M
 windrow-reader-stamp-spec =
@@ -55,10 +52,7 @@ windrow-reader-stamp-spec =
     check-requires
     enum-known-number
     enum-known-size
-    add-end
-    sub-stamp-from
-    part-stamp-from-start
-    part-stamp-from-end
+    record-of-requires
     stamp-from-requires
     returns
     returns-2)

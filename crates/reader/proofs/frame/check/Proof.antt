@@ -1,13 +1,8 @@
 -- `frame::check` meets its contract: the definition first, then the frame. Assumes nothing.
-use mathlib.Core.Path.{refl, sym, ap, _∙_, subst}
-use Prim.Native.Nat.{_-_}
-use borrow.Author.Needs.{needs}
-use Rattle.reader.specs.Frame.{frameCard, replyCard, andThen}
-use Rattle.points.specs.Card.{card, cardOf}
+use mathlib.Core.Path.{sym, ap, _∙_}
 use Rattle.points.proofs.Laws.{judged-good}
-use Rattle.reader.specs.Checked.{Says}
-use Rattle.reader.specs.declared.frame.Checked.the-variants.{Refused}
-use Rattle.reader.proofs.Laws.{says}
+use Rattle.reader.specs.Frame.{checkedBy, frameChecked}
+use borrow.Author.Needs.{needs}
 use Rattle.reader.proofs.frame.check.Statement.{statement}
 use Rattle.reader.proofs.frame.check.Tie as tie
 
@@ -28,29 +23,26 @@ enum-known-size c = search needs
 
 check-reply-requires : tie.Need-check-reply-requires
 check-reply-requires c κs =
-    let is = sym (c .before .before .before .judge .ensures) ∙ ap cardOf (c .before .size .given .1) in
-    let good = judged-good _ _ is in (good .least, good .most)
+    let good = judged-good _ _ (sym (c .before .before .before .judge .ensures) ∙ c .before .size .given .1) in (good .least, good .most)
 
 returns : tie.Need-returns
-unfolding frameCard
+unfolding frameChecked
 returns c =
     let s = c .before .before .before .before .before .before in
-    let is = ap cardOf (sym (c .before .g .given .1)) ∙ c .before .before .before .judge .ensures in
-    says (Refused 7 _) refl (ap (λ card. andThen card (replyCard (s .args .day-first) (s .args .frame .now))) is)
+    ap (λ j. checkedBy j (s .args .day-first) (s .args .frame .now)) (sym (c .before .g .given .1) ∙ c .before .before .before .judge .ensures)
 
 returns-2 : tie.Need-returns-2
-unfolding frameCard
+unfolding frameChecked
 returns-2 c =
     let s = c .before .before .before .before .before in
-    let is = ap cardOf (sym (c .enum-told .given .1)) ∙ c .before .before .judge .ensures in
-    says (Refused 8 0) refl (ap (λ card. andThen card (replyCard (s .args .day-first) (s .args .frame .now))) is)
+    ap (λ j. checkedBy j (s .args .day-first) (s .args .frame .now)) (sym (c .enum-told .given .1) ∙ c .before .before .judge .ensures)
 
 returns-3 : tie.Need-returns-3
-unfolding frameCard
+unfolding frameChecked
 returns-3 c =
     let s = c .before .before .before .before .before .before .before in
-    let is = ap cardOf (sym (c .before .before .size .given .1)) ∙ c .before .before .before .before .judge .ensures in
-    subst (λ card. Says (c .check-reply .result) card) (ap (λ card. andThen card (replyCard (s .args .day-first) (s .args .frame .now))) is) (c .check-reply .ensures)
+    c .check-reply .ensures
+    ∙ ap (λ j. checkedBy j (s .args .day-first) (s .args .frame .now)) (sym (c .before .before .size .given .1) ∙ c .before .before .before .before .judge .ensures)
 
 pub check-spec : {M : Type 1} → statement M
 check-spec =

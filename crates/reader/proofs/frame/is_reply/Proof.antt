@@ -18,6 +18,9 @@ returns c = simp (ne-eqb _ _ (c .if1 .taken))
 shared-slice-read-is-within : tie.Need-shared-slice-read-is-within
 shared-slice-read-is-within c = search needs
 
+cast-is-within : tie.Need-cast-is-within
+cast-is-within c = omega (arith, c .shared-slice-known2 .given 0)
+
 is-within-requires : tie.Need-is-within-requires
 is-within-requires c κs = search needs
 
@@ -68,6 +71,7 @@ is-reply-spec =
     add-if1
     returns
     shared-slice-read-is-within
+    cast-is-within
     is-within-requires
     returns-2
     shared-slice-read-if3

@@ -1,11 +1,9 @@
 -- `stretch::check_stretch` meets its contract: the frame first, then the place. Assumes nothing.
-use mathlib.Core.Path.{sym, ap, subst}
-use Prim.Native.Nat.{_-_}
+use mathlib.Core.Path.{sym, ap, _∙_}
+use Rattle.reader.specs.Checked.{andThen}
+use Rattle.reader.specs.Frame.{groupNamed, placeChecked, stretchChecked}
+use Rattle.reader.proofs.Laws.{frame-good}
 use borrow.Author.Needs.{needs}
-use Rattle.reader.specs.Frame.{stretchCard, andThen, placeCard}
-use Rattle.points.specs.Card.{card}
-use Rattle.reader.specs.Checked.{Says}
-use Rattle.reader.proofs.Laws.{says-good, refused-then, frame-good}
 use Rattle.reader.proofs.stretch.check_stretch.Statement.{statement}
 use Rattle.reader.proofs.stretch.check_stretch.Tie as tie
 
@@ -18,19 +16,24 @@ enum-known-number c = search needs
 enum-known-size : tie.Need-enum-known-size
 enum-known-size c = search needs
 
+group-named-requires : tie.Need-group-named-requires
+group-named-requires c κs = frame-good _ _ _ _ (sym (c .before .before .before .check .ensures) ∙ c .before .size .given .1) .definition .list
+
 check-place-requires : tie.Need-check-place-requires
-check-place-requires c κs = frame-good _ _ _ _ (says-good (c .before .before .before .check .ensures) (c .before .size .given .1)) .definition .list
+check-place-requires c κs = search needs
 
 returns : tie.Need-returns
-unfolding stretchCard
-returns c = let s = c .before .before .before .before .before .before in refused-then (placeCard (s .args .groups .now) (s .args .g)) (c .before .before .before .check .ensures) (c .before .number .given .1)
+unfolding stretchChecked
+returns c =
+    let s = c .before .before .before .before .before .before in
+    ap (λ x. andThen x (placeChecked (groupNamed (s .args .groups .now) (s .args .g)))) (sym (c .before .number .given .1) ∙ c .before .before .before .check .ensures)
 
 returns-2 : tie.Need-returns-2
-unfolding stretchCard
+unfolding stretchChecked
 returns-2 c =
-    let s = c .before .before .before .before .before .before .before in
-    let is = says-good (c .before .before .before .before .check .ensures) (c .before .before .size .given .1) in
-    subst (λ card. Says (c .check-place .result) card) (sym (ap (λ card. andThen card (placeCard (s .args .groups .now) (s .args .g))) is)) (c .check-place .ensures)
+    let s = c .before .before .before .before .before .before .before .before in
+    c .check-place .ensures ∙ ap (λ x. placeChecked x (c .before .before .before .size .given .0 .0)) (c .before .group-named .ensures)
+    ∙ ap (λ x. andThen x (placeChecked (groupNamed (s .args .groups .now) (s .args .g)))) (sym (c .before .before .before .size .given .1) ∙ c .before .before .before .before .before .check .ensures)
 
 pub check-stretch-spec : {M : Type 1} → statement M
 check-stretch-spec =
@@ -39,6 +42,7 @@ check-stretch-spec =
     check-requires
     enum-known-number
     enum-known-size
+    group-named-requires
     check-place-requires
     returns
     returns-2)

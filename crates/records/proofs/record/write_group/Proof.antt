@@ -2,7 +2,7 @@
 use mathlib.Core.Path.{sym, ap, _∙_}
 use Prim.Native.Nat.{_-_}
 use borrow.Author.Needs.{needs}
-use Rattle.records.specs.Capture.{captured}
+use Rattle.records.specs.Capture.{capturedGroup}
 use Rattle.points.specs.Groups.{groupSize}
 use Rattle.basics.proofs.Lists.{length-zero}
 use Rattle.records.proofs.record.write_group.Statement.{statement}
@@ -31,14 +31,14 @@ returns c =
     let s = c .before .before .before .before in
     let is = c .enum-told .given .1 in
     length-zero (s .args .part .now) (s .pre .lent .sized ∙ ap (λ g. groupSize g (s .args .count)) is)
-    ∙ sym (ap (λ g. captured (s .args .table .now) g (s .args .point) (s .args .count)) is)
+    ∙ sym (ap (λ g. capturedGroup (s .args .table .now) g (s .args .point) (s .args .count)) is)
 
 returns-2 : tie.Need-returns-2
 returns-2 c =
     let s = c .before .before .before .before in
     let is = c .enum-told2 .given .1 in
     length-zero (s .args .part .now) (s .pre .lent .sized ∙ ap (λ g. groupSize g (s .args .count)) is)
-    ∙ sym (ap (λ g. captured (s .args .table .now) g (s .args .point) (s .args .count)) is)
+    ∙ sym (ap (λ g. capturedGroup (s .args .table .now) g (s .args .point) (s .args .count)) is)
 
 same-length : tie.Need-same-length
 same-length c = search needs
@@ -47,7 +47,7 @@ returns-3 : tie.Need-returns-3
 returns-3 c =
     let s = c .before .before .before .before .before .before .before .before .before in
     c .before .before .write-points .ensures
-    ∙ sym (ap (λ g. captured (s .args .table .now) g (s .args .point) (s .args .count)) (c .before .before .before .before .before .group .given .1))
+    ∙ sym (ap (λ g. capturedGroup (s .args .table .now) g (s .args .point) (s .args .count)) (c .before .before .before .before .before .group .given .1))
 
 pub write-group-spec : {M : Type 1} → statement M
 write-group-spec =

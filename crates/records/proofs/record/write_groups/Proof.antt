@@ -7,7 +7,7 @@ use lib.ListN.{length, take}
 use lib.Seq.{take-all}
 use Rattle.records.specs.Record.{capturedGroups}
 use Rattle.points.specs.Groups.{groupsSize, groupAt, firstPointAt, countAt}
-use Rattle.records.specs.Capture.{captured}
+use Rattle.records.specs.Capture.{capturedGroup}
 use Rattle.basics.proofs.Lists.{take-pasted}
 use Rattle.points.proofs.Laws.{groups-size-mono, groups-size-next}
 use Rattle.records.proofs.Laws.{length-captured, groups-next}
@@ -51,7 +51,7 @@ loop-again c =
     let gs = s .args .groups .now in
     let t = s .args .table .now in
     let place = c .before .before .write-place .ensures in
-    let ys = captured t (groupAt gs (at .g)) (firstPointAt gs (at .g)) (countAt gs (at .g)) in
+    let ys = capturedGroup t (groupAt gs (at .g)) (firstPointAt gs (at .g)) (countAt gs (at .g)) in
     let long = length-captured t (groupAt gs (at .g)) (firstPointAt gs (at .g)) (countAt gs (at .g)) in
     let next = groups-size-next gs (at .g) in
     let most = groups-size-mono gs (at .g + 1) 16 (omega arith) in (

@@ -4,7 +4,7 @@ use Prim.Native.Nat.{_+_, _-_}
 use native.Mathlib.Omega.{arith}
 use lib.ListN.{length, take, drop}
 use borrow.Author.Needs.{needs}
-use Rattle.records.specs.Capture.{captured}
+use Rattle.records.specs.Capture.{capturedGroup}
 use Rattle.basics.specs.Lists.{pasted}
 use Rattle.basics.proofs.Lists.{part-back, length-part}
 use Rattle.points.specs.Groups.{groupSize, groupAt, firstPointAt, countAt}
@@ -89,7 +89,7 @@ returns c =
     record {
       ends = ap (λ b. s .args .at + b) (bytes sized);
       written = part-back (s .args .part .now) ys (s .args .at) _ long
-          ∙ ap (pasted (s .args .part .now) (s .args .at)) (written ∙ ap (λ g. captured (s .args .table .now) g point count) group);
+          ∙ ap (pasted (s .args .part .now) (s .args .at)) (written ∙ ap (λ g. capturedGroup (s .args .table .now) g point count) group);
     }
 
 pub write-place-spec : {M : Type 1} → statement M

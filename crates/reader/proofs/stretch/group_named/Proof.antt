@@ -1,9 +1,8 @@
--- `stretch::place_of` meets its contract. Assumes nothing.
-use Prim.Native.Nat.{_-_}
-use borrow.Author.Needs.{needs}
+-- `stretch::group_named` meets its contract. Assumes nothing.
 use borrow.Author.Tests.{le-leb, lt-leb}
-use Rattle.reader.proofs.stretch.place_of.Statement.{statement}
-use Rattle.reader.proofs.stretch.place_of.Tie as tie
+use borrow.Author.Needs.{needs}
+use Rattle.reader.proofs.stretch.group_named.Statement.{statement}
+use Rattle.reader.proofs.stretch.group_named.Tie as tie
 
 returns : tie.Need-returns
 returns c = simp (lt-leb _ _ (c .if1 .taken))
@@ -20,5 +19,5 @@ group-at-requires c κs = search needs
 returns-3 : tie.Need-returns-3
 returns-3 c = simp (le-leb _ _ (c .before .before .if1 .left), le-leb _ _ (c .before .if2 .left), c .group-at .ensures)
 
-pub place-of-spec : {M : Type 1} → statement M
-place-of-spec = tie.close (tie.spec returns returns-2 cast-group-at group-at-requires returns-3)
+pub group-named-spec : {M : Type 1} → statement M
+group-named-spec = tie.close (tie.spec returns returns-2 cast-group-at group-at-requires returns-3)
