@@ -9,14 +9,14 @@ use lib.ListN.{length, getD, take, replicate}
 use Rattle.points.specs.declared.table.Found.{Found}
 use Rattle.points.specs.declared.table.Found.the-variants.{In, Nowhere}
 use Rattle.points.specs.Table.{tableBytes, rowOf}
-use Rattle.points.specs.Card.{Card}
+use Rattle.basics.specs.Card.{Card, doneNo, groupNo, longNo}
 use Rattle.points.specs.Groups.{groupOf, recordSize, judgedCard}
 use Rattle.records.specs.declared.stamp.Stamp.{Stamp}
 use Rattle.records.specs.Stamp.{stampBytes}
-use Rattle.records.specs.Capture.{captured}
+use Rattle.records.specs.Capture.{capturedGroup}
 use Rattle.records.specs.Value.{PointValue, flag, int16, int32, float, text, valueInTable}
 use Rattle.archive.specs.Ring.{ring, capturedAll, pointerAfter, recordAfter}
-use Rattle.gateway.specs.declared.state.State.{State}
+use Rattle.state.specs.declared.parts.State.{State}
 use Rattle.gateway.specs.Calls.{freshAnswer, unlockAnswer, triggerAnswer, defineAnswer, startAnswer}
 use Rattle.gateway.specs.Scan.{scanAnswer, scanMemory}
 
@@ -34,12 +34,15 @@ infix 80 _gives_
 abbrev groups : List ℕ → List ℕ
 groups gs = gs ++ replicate (32 - length gs) 0
 
--- a definition judged: the card's number and what it carries; a good one carries its record's size
+-- a definition judged: the card's number and what it carries, and its record's size
 abbrev shown : Card → List ℕ
 shown c = c .number ∷ c .carried ∷ []
 
-abbrev judged : List ℕ → List ℕ
-judged gs = shown (judgedCard (groups gs))
+abbrev cardShown : List ℕ → List ℕ
+cardShown gs = shown (judgedCard (groups gs))
+
+abbrev bytes : List ℕ → List ℕ
+bytes gs = recordSize (groups gs) ∷ []
 
 -- 29 August 2007 11:36:52
 abbrev august : Stamp
@@ -50,8 +53,8 @@ abbrev tableWith : ℕ → List ℕ → List ℕ
 tableWith i bs = replicate i 0 ++ (bs ++ replicate (tableBytes - (i + length bs)) 0)
 
 -- what a group of a table captures
-abbrev capturedGroup : List ℕ → ℕ → ℕ → List ℕ
-capturedGroup table p n = captured table (groupOf p n) p n
+abbrev groupBytes : List ℕ → ℕ → ℕ → List ℕ
+groupBytes table p n = capturedGroup table (groupOf p n) p n
 
 -- a whole number: 0 and its size, or 1 and its size where it is below 0
 abbrev shownNumber : ℤ → List ℕ
@@ -108,7 +111,7 @@ twoScans first second =
     let one = scanAnswer watching nothing first august in
     let left = scanMemory watching nothing first august in
     let two = scanAnswer (one .state) left second august in
-    one .number ∷ two .number ∷ getD (two .state .pointers) 0 0 ∷ take 6 (scanMemory (one .state) left second august)
+    one .number ∷ two .number ∷ getD (two .state .files .pointers) 0 0 ∷ take 6 (scanMemory (one .state) left second august)
 
 abbrev flagOff : List ℕ
 flagOff = tableWith 0 []
@@ -123,19 +126,21 @@ marked =
     stampBytes false august gives (0x08 ∷ 0x1D ∷ 0x07 ∷ 0x0B ∷ 0x24 ∷ 0x34 ∷ [])
     ∷ stampBytes true august gives (0x1D ∷ 0x08 ∷ 0x07 ∷ 0x0B ∷ 0x24 ∷ 0x34 ∷ [])
     -- Groups (7101,3), (5101,3): 30 bytes (002's example)
-    ∷ judged (7101 ∷ 3 ∷ 5101 ∷ 3 ∷ []) gives (0 ∷ 30 ∷ [])
+    ∷ bytes (7101 ∷ 3 ∷ 5101 ∷ 3 ∷ []) gives (30 ∷ [])
+    ∷ cardShown (7101 ∷ 3 ∷ 5101 ∷ 3 ∷ []) gives (doneNo ∷ 0 ∷ [])
     -- (7101,61): 250, taken; with (3001,1) besides, 252: 8
-    ∷ judged (7101 ∷ 61 ∷ []) gives (0 ∷ 250 ∷ [])
-    ∷ judged (7101 ∷ 61 ∷ 3001 ∷ 1 ∷ []) gives (8 ∷ 0 ∷ [])
-    ∷ (recordSize (groups (7101 ∷ 61 ∷ 3001 ∷ 1 ∷ [])) ∷ []) gives (252 ∷ [])
+    ∷ bytes (7101 ∷ 61 ∷ []) gives (250 ∷ [])
+    ∷ cardShown (7101 ∷ 61 ∷ []) gives (doneNo ∷ 0 ∷ [])
+    ∷ bytes (7101 ∷ 61 ∷ 3001 ∷ 1 ∷ []) gives (252 ∷ [])
+    ∷ cardShown (7101 ∷ 61 ∷ 3001 ∷ 1 ∷ []) gives (longNo ∷ 0 ∷ [])
     -- (7228,1) taken; (7228,2): 7
-    ∷ judged (7228 ∷ 1 ∷ []) gives (0 ∷ 10 ∷ [])
-    ∷ judged (7228 ∷ 2 ∷ []) gives (7 ∷ 1 ∷ [])
+    ∷ cardShown (7228 ∷ 1 ∷ []) gives (doneNo ∷ 0 ∷ [])
+    ∷ cardShown (7228 ∷ 2 ∷ []) gives (groupNo ∷ 1 ∷ [])
     -- (1801,9), only 1801 and 1809 on: 01 01 hex
-    ∷ capturedGroup (tableWith 0 (0x01 ∷ 0x01 ∷ [])) 1801 9 gives (0x01 ∷ 0x01 ∷ [])
+    ∷ groupBytes (tableWith 0 (0x01 ∷ 0x01 ∷ [])) 1801 9 gives (0x01 ∷ 0x01 ∷ [])
     -- Value -5 at 3001: FF FB hex
     ∷ int16In (rowOf 3001) (tableWith 16 (0xFF ∷ 0xFB ∷ [])) 3001 gives shownNumber (negsuc 4)
-    ∷ capturedGroup (tableWith 16 (0xFF ∷ 0xFB ∷ [])) 3001 1 gives (0xFF ∷ 0xFB ∷ [])
+    ∷ groupBytes (tableWith 16 (0xFF ∷ 0xFB ∷ [])) 3001 1 gives (0xFF ∷ 0xFB ∷ [])
     -- Memory 11,006: one file of one bare stamp starts; 11,005: 11
     ∷ oneBareStamp 11006 gives (0 ∷ [])
     ∷ oneBareStamp 11005 gives (11 ∷ [])

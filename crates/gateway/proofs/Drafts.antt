@@ -12,7 +12,7 @@ use Rattle.basics.specs.Lists.{pasted}
 use Rattle.basics.proofs.Lists.{part-before, part-behind, part-here}
 use Rattle.basics.proofs.Tests.{eq-or-not, lt-or-le}
 use Rattle.archive.specs.Layout.{definition, isGood, goodFiles}
-use Rattle.archive.proofs.Laws.{every-at, every-all, good-definition, good-file}
+use Rattle.archive.proofs.Layouts.{every-at, every-all, good-definition, good-file}
 
 pub written-here : (xs gs : List ℕ) (k : ℕ) → 32 * k ≤ length xs → length gs ≡ 32 → definition (pasted xs (32 * k) gs) k ≡ gs
 written-here xs gs k fits long =

@@ -1,5 +1,5 @@
+-- What callers' proofs cite of this crate, and what several of its own do.
 pub mod Answers
-pub mod Clauses
 pub mod Zeros
 pub mod Drafts
 pub mod Settings

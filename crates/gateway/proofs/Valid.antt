@@ -1,28 +1,28 @@
 -- A call on a valid state leaves a valid state. Assumes nothing.
+--     zeros-within                     numbers that are all 0 are within any limit
 --     unlock-valid, lock-valid, ..     the calls
---     fresh-valid     what Fresh leaves
+--     fresh-valid                      what Fresh leaves
 use mathlib.Core.Path.{_≡_, refl, ap, _∙_}
 use mathlib.Core.List.{List}
 use mathlib.Core.Bool.{Bool, true, false, not, _&&_}
-use Prim.Native.Nat.{ℕ, _-_, _≤_}
+use Prim.Native.Nat.{ℕ, _-_, _*_, _≤_}
 use native.Mathlib.Omega.{arith}
 use borrow.Author.Tests.{le-leb}
-use lib.Dec.{leb}
 use lib.ListN.{getD, set, replicate, getD-replicate}
-use Rattle.gateway.specs.declared.state.State.{State}
+use Rattle.points.specs.Table.{booleanOrNone, floatOrNone}
+use Rattle.points.specs.Groups.{judgedCard, judged, firstBad, recordSize, groupsSize, groupOf, unused}
 use Rattle.archive.specs.declared.alarms.Slot.{Slot}
+use Rattle.archive.specs.Layout.{Layout, every, isGood, goodFiles, allFiles, alarmDepth, alarmSize, idleFiles, redefined, layoutOf, limitOf, sizeOf, baseOf, layoutSize, hasRoom}
+use Rattle.archive.specs.Alarms.{offSlot, slotCount, goodSlot, goodSlotAt, goodSlots}
+use Rattle.archive.proofs.Layouts.{every-at, every-all, set-holds}
+use Rattle.state.specs.declared.parts.State.{State}
+use Rattle.state.specs.State.{freshState, withFlags, withDraft, withTriggers, withSlots, restarted, drafted}
+use Rattle.state.specs.Validity.{goodTriggers, withinLimits, valid}
+use Rattle.state.proofs.Clauses.{valid-split, valid-join, within-join}
 use Rattle.gateway.specs.declared.calls.Answer.{Answer}
-use Rattle.archive.specs.Layout.{every, isGood, goodFiles, fileSize, base, layoutSize, hasRoom}
-use Rattle.archive.specs.Alarms.{offSlot}
-use Rattle.gateway.specs.State.{freshState, withFlags, withDraft, withTriggers, withSlots, laidOut}
-use Rattle.gateway.specs.Validity.{goodTriggers, goodSlot, goodSlotAt, goodSlots, withinFiles, withinLimits, valid}
-use Rattle.gateway.specs.Calls.{told, unlockAnswer, lockAnswer, stopAnswer, triggerAnswer, alarmAnswer, drafted, defineAnswer, freshNumber, startAnswer}
-use Rattle.points.specs.Table.{floatOrNone, booleanOrNone}
-use Rattle.points.specs.Groups.{judgedCard, firstBad, recordSize, groupsSize, groupOf, unused}
+use Rattle.gateway.specs.Calls.{told, unlockAnswer, lockAnswer, stopAnswer, triggerAnswer, alarmAnswer, defineAnswer, startAnswer, leastMemory, mostMemory, freshNumber}
 use Rattle.gateway.proofs.Answers.{within-inside, fresh-parts}
-use Rattle.gateway.proofs.Clauses.{valid-split, valid-join}
 use Rattle.gateway.proofs.Drafts.{drafts-stay-good}
-use Rattle.archive.proofs.Laws.{every-at, every-all, set-holds}
 use Rattle.gateway.proofs.Settings.{by-unlock, by-lock, by-stop, by-trigger, by-alarm, by-define, by-start}
 
 -- ---- flags
@@ -48,31 +48,29 @@ not-both false = refl
 
 -- ---- empty lists
 -- a pointer or requested number of 0 is within any limit
-pub zeros-within : (limits : List ℕ) → withinLimits (replicate 11 0) limits ≡ true
-unfolding withinLimits withinFiles
-zeros-within limits = simp (every-all (λ i. leb (getD (replicate 11 0) i 0) (getD limits i 0)) 10 (λ i below.
-    ap (λ x. leb x (getD limits i 0)) (getD-replicate 11 i 0 0 (omega (arith, below))) ∙ le-leb 0 (getD limits i 0) (omega arith)))
+pub zeros-within : (l : Layout) → withinLimits (replicate allFiles 0) l ≡ true
+zeros-within l = within-join (replicate allFiles 0) l (λ f below. omega (arith, getD-replicate {A = ℕ} allFiles f 0 0 below))
 
 judged-is-good : (gs : List ℕ) → judgedCard gs .number ≡ 0 → isGood gs ≡ true
 unfolding isGood
 judged-is-good gs good = simp good
 
 -- ---- idle files, no triggers, slots off
-idle-good : goodFiles (replicate 320 0) ≡ true
-unfolding goodFiles every isGood judgedCard firstBad recordSize groupsSize groupOf unused
+idle-good : goodFiles (idleFiles .groups) ≡ true
+unfolding goodFiles every isGood judged firstBad recordSize groupsSize groupOf unused
 idle-good = refl
 
 no-triggers : goodTriggers (replicate 10 0) ≡ true
 unfolding goodTriggers every booleanOrNone
 no-triggers = refl
 
-no-slots : goodSlots (replicate 32 offSlot) ≡ true
+no-slots : goodSlots (replicate slotCount offSlot) ≡ true
 unfolding goodSlots every goodSlot booleanOrNone floatOrNone
 no-slots = refl
 
-idle-fits : (size : ℕ) → 11000 ≤ size → hasRoom (replicate 320 0) (replicate 10 0) size ≡ true
-unfolding hasRoom layoutSize base fileSize recordSize groupsSize groupOf unused
-idle-fits size long = le-leb 11000 size long
+idle-fits : (size : ℕ) → leastMemory ≤ size → hasRoom (layoutOf idleFiles alarmDepth) size ≡ true
+unfolding hasRoom layoutSize baseOf limitOf sizeOf recordSize groupsSize groupOf unused
+idle-fits size long = le-leb leastMemory size long
 
 -- ---- the calls
 -- the answer's state is valid if the one given is
@@ -84,21 +82,21 @@ module _ (s : State) (size : ℕ) where
   same n v = λ v. v
 
   pub unlock-valid : Stays s (unlockAnswer s size)
-  unlock-valid = by-unlock (Stays s) s size same (λ _ rests. flags-valid s (s .running) true true (ap (λ b. not (b && true)) rests))
+  unlock-valid = by-unlock (Stays s) s size same (λ _ rests. flags-valid s (s .flags .running) true true (ap (λ b. not (b && true)) rests))
 
   pub lock-valid : Stays s (lockAnswer s size)
-  lock-valid = by-lock (Stays s) s size same (λ _. flags-valid s (s .running) false (s .pending) (not-both (s .running)))
+  lock-valid = by-lock (Stays s) s size same (λ _. flags-valid s (s .flags .running) false (s .flags .pending) (not-both (s .flags .running)))
 
   pub stop-valid : Stays s (stopAnswer s size)
-  stop-valid = by-stop (Stays s) s size same (λ _. flags-valid s false (s .unlocked) (s .pending) refl)
+  stop-valid = by-stop (Stays s) s size same (λ _. flags-valid s false (s .flags .unlocked) (s .flags .pending) refl)
 
   pub trigger-valid : (f p : ℕ) → Stays s (triggerAnswer s size f p)
   unfolding goodTriggers
   trigger-valid f p = by-trigger (Stays s) s size same f p (λ _ good v.
       let k = valid-split s v in
-      let set-good = every-all (λ i. booleanOrNone (getD (set (s .triggers) (f - 1) p) i 0)) 10 (λ i below.
-      set-holds booleanOrNone (s .triggers) (f - 1) i p 0 good (every-at (λ j. booleanOrNone (getD (s .triggers) j 0)) 10 i (k .triggers) below)) in
-      valid-join (withTriggers s (set (s .triggers) (f - 1) p)) (record {
+      let set-good = every-all (λ i. booleanOrNone (getD (set (s .settings .triggers) (f - 1) p) i 0)) 10 (λ i below.
+      set-holds booleanOrNone (s .settings .triggers) (f - 1) i p 0 good (every-at (λ j. booleanOrNone (getD (s .settings .triggers) j 0)) 10 i (k .triggers) below)) in
+      valid-join (withTriggers s (set (s .settings .triggers) (f - 1) p)) (record {
         flags = k .flags;
         drafts = k .drafts;
         triggers = set-good;
@@ -115,10 +113,10 @@ module _ (s : State) (size : ℕ) where
   alarm-valid n point kind transducer = by-alarm (Stays s) s size same n point kind transducer (λ _ good v.
       let entry : Slot = record { point = point; transducer = transducer; kind = kind } in
       let k = valid-split s v in
-      let set-good = every-all (goodSlotAt (set (s .slots) (n - 1) entry)) 32 (λ i below.
-      set-holds (λ slot. goodSlot (slot .point) (slot .kind) (slot .transducer)) (s .slots) (n - 1) i entry offSlot good
-      (every-at (goodSlotAt (s .slots)) 32 i (k .slots) below)) in
-      valid-join (withSlots s (set (s .slots) (n - 1) entry)) (record {
+      let set-good = every-all (goodSlotAt (set (s .settings .slots) (n - 1) entry)) 32 (λ i below.
+      set-holds (λ slot. goodSlot (slot .point) (slot .kind) (slot .transducer)) (s .settings .slots) (n - 1) i entry offSlot good
+      (every-at (goodSlotAt (s .settings .slots)) 32 i (k .slots) below)) in
+      valid-join (withSlots s (set (s .settings .slots) (n - 1) entry)) (record {
         flags = k .flags;
         drafts = k .drafts;
         triggers = k .triggers;
@@ -134,24 +132,24 @@ module _ (s : State) (size : ℕ) where
   start-valid = by-start (Stays s) s size same
       (λ _ _ fits v.
       let k = valid-split s v in
-      valid-join (withFlags (laidOut s) true false false) (record {
+      valid-join (restarted s) (record {
         flags = refl;
         drafts = k .drafts;
         triggers = k .triggers;
         slots = k .slots;
         laid = k .drafts;
         room = fits;
-        pointers = zeros-within (s .draft .limits);
-        requested = zeros-within (s .draft .limits);
+        pointers = zeros-within (drafted s);
+        requested = zeros-within (drafted s);
         unit = k .unit;
       }))
-      (λ _ none v. flags-valid s true false (s .pending) refl v)
+      (λ _ none v. flags-valid s true false (s .flags .pending) refl v)
 
   pub define-valid : (f : ℕ) (gs : List ℕ) (n : ℕ) → Stays s (defineAnswer s size f gs n)
   define-valid f gs n = by-define (Stays s) s size same f gs n (λ _ file good v.
       let k = valid-split s v in
-      let new = drafts-stay-good (s .draft .groups) gs (f - 1) (omega (arith, within-inside 1 10 f file)) (k .drafts) (judged-is-good gs good) in
-      valid-join (withDraft s (drafted (s .draft) (f - 1) gs n)) (record {
+      let new = drafts-stay-good (s .settings .draft .groups) gs (f - 1) (omega (arith, within-inside 1 10 f file)) (k .drafts) (judged-is-good gs good) in
+      valid-join (withDraft s (redefined (s .settings .draft) (f - 1) gs n)) (record {
         flags = k .flags;
         drafts = new;
         triggers = k .triggers;
@@ -173,8 +171,8 @@ fresh-valid dayFirst unit size taken =
       triggers = no-triggers;
       slots = no-slots;
       laid = idle-good;
-      room = idle-fits size (within-inside 11000 1048576 size (fresh-parts unit size taken .0) .0);
-      pointers = zeros-within (replicate 10 0);
-      requested = zeros-within (replicate 10 0);
+      room = idle-fits size (within-inside leastMemory mostMemory size (fresh-parts unit size taken .0) .0);
+      pointers = zeros-within (layoutOf idleFiles alarmDepth);
+      requested = zeros-within (layoutOf idleFiles alarmDepth);
       unit = fresh-parts unit size taken .1;
     })

@@ -1,4 +1,3 @@
-pub mod State
-pub mod Validity
 pub mod Calls
 pub mod Scan
+pub mod Lent

@@ -1,25 +1,45 @@
 // The calls that make and lay out files, document 01, "The plain machine": Fresh, Define and Start.
 ghost use mathlib.Core.Path.{_≡_};
-ghost use mathlib.Core.Bool.{true, false};
+ghost use mathlib.Core.Bool.{true};
 ghost use Prim.Native.Nat.{_<_, _≤_, _-_};
 ghost use lib.ListN.{length, replicate};
-ghost use Rattle.archive.specs.Layout.{goodFiles, hasRoom};
-ghost use Rattle.gateway.specs.State.{idleFiles, freshState, withDraft, laidOut};
-ghost use Rattle.gateway.specs.Calls.{drafted, freshNumber, MadeFresh, definitionAnswer, defineAnswer, Started};
+ghost use Rattle.archive.specs.Layout.{idleFiles, redefined, goodFiles, layoutOf, hasRoom};
+ghost use Rattle.state.specs.State.{freshSettings, freshState, withDraft, restarted};
+ghost use Rattle.gateway.specs.Calls.{freshNumber, MadeFresh, definitionAnswer, Defined, Started};
 use crate::calls::Answer;
-use crate::calls::is_one_to;
-use crate::calls::state_number;
 use crate::calls::tell;
 use crate::calls::with_flags;
-use crate::state::Files;
-use crate::state::Site;
-use crate::state::State;
+use crate::calls::with_settings;
 use archive::alarms::Slot;
-use archive::layout::has_room;
+use archive::layout::ALARM_DEPTH;
+use archive::layout::Definitions;
+use archive::layout::layout_size;
+use archive::layout::measure;
+use basics::card::DONE;
+use basics::card::FILE;
+use basics::card::FOREIGN;
+use basics::card::GROUP;
+use basics::card::LOCKED;
+use basics::card::LONG;
+use basics::card::MEMORY;
+use basics::card::ROOM;
 use basics::copy_numbers;
 use basics::is_within;
 use points::groups::Judged;
 use points::groups::judge;
+use state::check::check;
+use state::parts::Files;
+use state::parts::Flags;
+use state::parts::Line;
+use state::parts::Seen;
+use state::parts::Settings;
+use state::parts::Site;
+use state::parts::State;
+
+// Fresh's least memory, the alarm file alone, and its most.
+const LEAST_MEMORY: usize = 11000;
+
+const MOST_MEMORY: usize = 1048576;
 
 // Every byte of archive memory 0.
 fn clear(archive: &mut [u8])
@@ -32,169 +52,117 @@ fn clear(archive: &mut [u8])
     }
 }
 
-fn idle_files() -> Files
+fn idle_files() -> Definitions
     ensures { λ r. ⌜ r ≡ idleFiles ⌝ }
 {
     let groups = [0; 320];
     let limits = [0; 10];
-    Files { groups, limits }
+    Definitions { groups, limits }
 }
 
-// All flags off, files idle, triggers and slots 0, pointers and requested numbers 0.
-fn fresh_state(dayfirst: bool, unit: u8, size: u32) -> State
-    ensures { λ r. ⌜ r ≡ freshState dayfirst unit size ⌝ }
+// Drafts idle, triggers and slots 0.
+fn fresh_settings() -> Settings
+    ensures { λ r. ⌜ r ≡ freshSettings ⌝ }
 {
-    let site = Site {
-        archive: size,
-        unit,
-        dayfirst,
-    };
     let draft = idle_files();
-    let layout = idle_files();
     let off = Slot {
         point: 0,
         transducer: 0,
         kind: 0,
     };
-    let triggers = [0; 10];
-    let slots = [off; 32];
-    let booleans = [0; 16];
-    let pointers = [0; 11];
-    let requested = [0; 11];
-    State {
-        site,
+    Settings {
+        draft,
+        triggers: [0; 10],
+        slots: [off; 32],
+    }
+}
+
+// All flags off, files idle, triggers and slots 0, pointers and requested numbers 0.
+fn fresh_state(day_first: bool, unit: u8, size: u32) -> State
+    ensures { λ r. ⌜ r ≡ freshState «day_first» unit size ⌝ }
+{
+    let site = Site {
+        archive_length: size,
+        unit,
+        day_first,
+        reserved: 0,
+    };
+    let flags = Flags {
         running: false,
         unlocked: false,
         pending: false,
+    };
+    let seen = Seen {
         scanned: false,
-        draft,
+        booleans: [0; 16],
+    };
+    let layout = idle_files();
+    let files = Files {
         layout,
-        triggers,
-        slots,
-        booleans,
-        pointers,
-        requested,
-    }
-}
-
-// The draft becomes the layout, and every list is emptied.
-fn laid_out(s: State) -> State
-    ensures { λ r. ⌜ r ≡ laidOut s ⌝ }
-{
-    let site = s.site;
-    let draft = s.draft;
-    let layout = s.draft;
-    let triggers = s.triggers;
-    let slots = s.slots;
-    let booleans = s.booleans;
-    let pointers = [0; 11];
-    let requested = [0; 11];
+        pointers: [0; 11],
+    };
+    let line = Line { requested: [0; 11] };
+    let settings = fresh_settings();
     State {
         site,
-        running: s.running,
-        unlocked: s.unlocked,
-        pending: s.pending,
-        scanned: s.scanned,
-        draft,
-        layout,
-        triggers,
-        slots,
-        booleans,
-        pointers,
-        requested,
+        flags,
+        seen,
+        files,
+        line,
+        settings,
     }
-}
-
-// Other drafts.
-fn with_draft(s: State, draft: Files) -> State
-    ensures { λ r. ⌜ r ≡ withDraft s draft ⌝ }
-{
-    let site = s.site;
-    let layout = s.layout;
-    let triggers = s.triggers;
-    let slots = s.slots;
-    let booleans = s.booleans;
-    let pointers = s.pointers;
-    let requested = s.requested;
-    State {
-        site,
-        running: s.running,
-        unlocked: s.unlocked,
-        pending: s.pending,
-        scanned: s.scanned,
-        draft,
-        layout,
-        triggers,
-        slots,
-        booleans,
-        pointers,
-        requested,
-    }
-}
-
-// One file's draft replaced; f is counted from 0.
-fn redrafted(draft: Files, f: usize, groups: &[u16], limit: u16) -> Files
-    requires { ⌜ (f < 10) × (length (now groups) ≡ 32) ⌝ }
-    ensures { λ r. ⌜ r ≡ drafted draft f (now (groups .entry)) limit ⌝ }
-{
-    let mut numbers = draft.groups;
-    let mut limits = draft.limits;
-    copy_numbers(&mut numbers[32 * f..32 * f + 32], groups);
-    limits[f] = limit;
-    Files {
-        groups: numbers,
-        limits,
-    }
-}
-
-// Whether the drafted layout fits the archive.
-fn has_draft_room(s: State) -> bool
-    requires { ⌜ goodFiles (s .draft .groups) ≡ true ⌝ }
-    ensures { λ r. ⌜ r ≡ hasRoom (s .draft .groups) (s .draft .limits) (s .site .archive) ⌝ }
-{
-    let site = s.site;
-    let draft = s.draft;
-    let groups = draft.groups;
-    let limits = draft.limits;
-    has_room(&groups, &limits, site.archive)
 }
 
 // Fresh's own numbers: Memory (1), and 2 for its unit; 0 where neither applies.
-fn fresh_number(unit: u8, size: usize) -> u32
+fn fresh_number(unit: u32, size: usize) -> u32
     ensures { λ r. ⌜ r ≡ freshNumber unit size ⌝ }
 {
-    if size < 11000 {
-        return 1;
+    if size < LEAST_MEMORY {
+        return MEMORY;
     }
-    if 1048576 < size {
-        return 1;
+    if MOST_MEMORY < size {
+        return MEMORY;
     }
     if !is_within(1, 247, unit) {
-        return 2;
+        return FOREIGN;
     }
-    0
+    DONE
 }
 
 // Fresh: every archive byte 0 and the state as document 01's Fresh; refused, a state of zeros, and memory is not touched.
 #[no_mangle]
-pub extern "C" fn windrow_gateway_fresh(dayfirst: bool, unit: u8, archive: &mut [u8]) -> Answer
-    ensures { λ r. ⌜ MadeFresh dayfirst unit (now (archive .entry)) r (now (archive .exit)) ⌝ }
+pub extern "C" fn windrow_gateway_fresh(day_first: bool, unit: u32, archive: &mut [u8]) -> Answer
+    ensures { λ r. ⌜ MadeFresh «day_first» unit (now (archive .entry)) r (now (archive .exit)) ⌝ }
 {
     let size = archive.len();
     let number = fresh_number(unit, size);
-    if number != 0 {
+    if number != DONE {
         return tell(fresh_state(false, 0, 0), number, 0);
     }
     clear(archive);
-    tell(fresh_state(dayfirst, unit, size as u32), 0, 0)
+    tell(fresh_state(day_first, unit as u8, size as u32), DONE, 0)
+}
+
+// Drafts with the 32 numbers and the n of file f, counted from 0.
+fn redraft(draft: Definitions, f: usize, numbers: &[u16], limit: u16) -> Definitions
+    requires { ⌜ (f < 10) × (length (now numbers) ≡ 32) ⌝ }
+    ensures { λ r. ⌜ r ≡ redefined draft f (now (numbers .entry)) limit ⌝ }
+{
+    let mut groups = draft.groups;
+    copy_numbers(&mut groups[32 * f..32 * f + 32], numbers);
+    let mut limits = draft.limits;
+    limits[f] = limit;
+    Definitions { groups, limits }
 }
 
 fn with_definition(s: State, file: u32, groups: &[u16], limit: u16) -> State
     requires { ⌜ (1 ≤ file) × (file ≤ 10) × (length (now groups) ≡ 32) ⌝ }
-    ensures { λ r. ⌜ r ≡ withDraft s (drafted (s .draft) (file - 1) (now (groups .entry)) limit) ⌝ }
+    ensures { λ r. ⌜ r ≡ withDraft s (redefined (s .settings .draft) (file - 1) (now (groups .entry)) limit) ⌝ }
 {
-    let draft = s.draft;
-    with_draft(s, redrafted(draft, (file - 1) as usize, groups, limit))
+    let mut settings = s.settings;
+    let draft = settings.draft;
+    settings.draft = redraft(draft, (file - 1) as usize, groups, limit);
+    with_settings(s, settings)
 }
 
 // Judges the numbers, and replaces the file's draft where they keep the rules.
@@ -203,9 +171,9 @@ fn redefine(s: State, file: u32, groups: &[u16], limit: u16) -> Answer
     ensures { λ r. ⌜ r ≡ definitionAnswer s file (now (groups .entry)) limit ⌝ }
 {
     match judge(groups) {
-        Judged::BadGroup(g) => tell(s, 7, g as u32),
-        Judged::Long => tell(s, 8, 0),
-        Judged::Good(_) => tell(with_definition(s, file, groups, limit), 0, 0),
+        Judged::BadGroup(g) => tell(s, GROUP, g as u32),
+        Judged::Long => tell(s, LONG, 0),
+        Judged::Good(_) => tell(with_definition(s, file, groups, limit), DONE, 0),
     }
 }
 
@@ -218,19 +186,54 @@ pub extern "C" fn windrow_gateway_define(
     groups: &[u16; 32],
     limit: u16,
 ) -> Answer
-    ensures { λ r. ⌜ r ≡ defineAnswer s (length (now (archive .entry))) file (now (groups .entry)) limit ⌝ }
+    ensures { λ r. ⌜ Defined s (now (archive .entry)) file (now (groups .entry)) limit r (now (archive .exit)) ⌝ }
 {
-    let number = state_number(s, archive.len());
-    if number != 0 {
-        return tell(s, number, 0);
+    let checked = check(s, archive.len());
+    if checked.number != DONE {
+        return tell(s, checked.number, 0);
     }
-    if !is_one_to(10, file) {
-        return tell(s, 5, 0);
+    if !is_within(1, 10, file) {
+        return tell(s, FILE, 0);
     }
-    if !s.unlocked {
-        return tell(s, 6, 0);
+    if !s.flags.unlocked {
+        return tell(s, LOCKED, 0);
     }
     redefine(s, file, groups, limit)
+}
+
+// Whether drafted files fit archive memory of this length.
+fn has_draft_room(draft: Definitions, depth: u16, size: usize) -> bool
+    requires { ⌜ goodFiles (draft .groups) ≡ true ⌝ }
+    ensures { λ r. ⌜ r ≡ hasRoom (layoutOf draft depth) size ⌝ }
+{
+    let groups = draft.groups;
+    let limits = draft.limits;
+    let measured = measure(&groups);
+    let sizes = measured.sizes;
+    layout_size(&groups, &limits, &sizes, depth) <= size
+}
+
+// A pending Start's new state: the draft becomes the layout, and every list is emptied.
+fn restart(s: State) -> State
+    ensures { λ r. ⌜ r ≡ restarted s ⌝ }
+{
+    let settings = s.settings;
+    let layout = settings.draft;
+    let flags = Flags {
+        running: true,
+        unlocked: false,
+        pending: false,
+    };
+    let files = Files {
+        layout,
+        pointers: [0; 11],
+    };
+    let line = Line { requested: [0; 11] };
+    let mut t = s;
+    t.flags = flags;
+    t.files = files;
+    t.line = line;
+    t
 }
 
 // Start: running on, unlocked off. Pending, it lays out the draft and empties every file.
@@ -238,16 +241,20 @@ pub extern "C" fn windrow_gateway_define(
 pub extern "C" fn windrow_gateway_start(s: State, archive: &mut [u8]) -> Answer
     ensures { λ r. ⌜ Started s (now (archive .entry)) r (now (archive .exit)) ⌝ }
 {
-    let number = state_number(s, archive.len());
-    if number != 0 {
-        return tell(s, number, 0);
+    let size = archive.len();
+    let checked = check(s, size);
+    if checked.number != DONE {
+        return tell(s, checked.number, 0);
     }
-    if !s.pending {
-        return tell(with_flags(s, true, false, s.pending), 0, 0);
+    let pending = s.flags.pending;
+    if !pending {
+        return tell(with_flags(s, true, false, pending), DONE, 0);
     }
-    if !has_draft_room(s) {
-        return tell(s, 11, 0);
+    let settings = s.settings;
+    let draft = settings.draft;
+    if !has_draft_room(draft, ALARM_DEPTH, size) {
+        return tell(s, ROOM, 0);
     }
     clear(archive);
-    tell(with_flags(laid_out(s), true, false, false), 0, 0)
+    tell(restart(s), DONE, 0)
 }

@@ -1,6 +1,4 @@
-// The gateway: its state, what makes a state valid, and the calls of the plain machine.
+// The gateway: the calls of the plain machine, exported for its firmware.
 pub mod calls;
 pub mod files;
 pub mod scan;
-pub mod state;
-pub mod validity;

@@ -1,48 +1,37 @@
 -- `calls::windrow_gateway_unlock` meets its contract. Assumes nothing.
-use mathlib.Core.Path.{ap, _∙_}
-use Prim.Native.Nat.{_-_}
+use Rattle.basics.specs.Card.{firstOf}
+use lib.ListN.{length}
+use Rattle.state.specs.State.{withFlags}
+use Rattle.state.specs.Validity.{stateNumber}
+use mathlib.Core.Path.{ap, refl, _∙_}
+use mathlib.Core.Bool.{true, cond}
+use Rattle.gateway.proofs.Answers.{refused-or-done}
+use Rattle.gateway.specs.Calls.{byNumber, unlockAnswer}
 use borrow.Author.Needs.{needs}
-use Rattle.gateway.proofs.Answers.{refused-first, own-next}
-use Rattle.gateway.specs.Calls.{told, unlockAnswer}
 use Rattle.gateway.proofs.calls.windrow_gateway_unlock.Statement.{statement}
 use Rattle.gateway.proofs.calls.windrow_gateway_unlock.Tie as tie
 
-state-number-requires : tie.Need-state-number-requires
-state-number-requires c κs = search needs
+check-requires : tie.Need-check-requires
+check-requires c κs = search needs
 
-tell-requires : tie.Need-tell-requires
-tell-requires c κs = search needs
+unlock-number-requires : tie.Need-unlock-number-requires
+unlock-number-requires c κs = search needs
+
+answer-flags-requires : tie.Need-answer-flags-requires
+answer-flags-requires c κs = search needs
 
 returns : tie.Need-returns
 unfolding unlockAnswer
-returns c = c .tell .ensures ∙ refused-first _ _ _ _ (c .before .before .state-number .ensures) (c .before .if1 .taken)
-
-tell-requires-2 : tie.Need-tell-requires-2
-tell-requires-2 c κs = search needs
-
-returns-2 : tie.Need-returns-2
-unfolding unlockAnswer
-returns-2 c = c .tell2 .ensures ∙ simp (c .before .if2 .taken) (own-next _ _ _ _ (c .before .before .before .state-number .ensures) (c .before .before .if1 .left))
-
-with-flags-requires : tie.Need-with-flags-requires
-with-flags-requires c κs = search needs
-
-tell-requires-3 : tie.Need-tell-requires-3
-tell-requires-3 c κs = search needs
-
-returns-3 : tie.Need-returns-3
-unfolding unlockAnswer
-returns-3 c = c .tell3 .ensures ∙ ap (λ t. told t 0 0) (c .before .with-flags .ensures) ∙ simp (c .before .before .if2 .left) (own-next _ _ _ _ (c .before .before .before .before .state-number .ensures) (c .before .before .before .if1 .left))
+returns c =
+    let s = c .before .before .before .before .args .s in
+    let size = length (c .before .before .before .before .args .archive .now) in
+    let number = c .before .unlock-number .ensures ∙ ap (λ n. firstOf n (cond (s .flags .running) 10 0)) (c .before .before .check .ensures .number) in
+    record {
+      answer = c .answer-flags .ensures ∙ ap (λ n. byNumber n (withFlags s (s .flags .running) true true) s) number
+          ∙ refused-or-done s (withFlags s (s .flags .running) true true) (stateNumber s size) (s .flags .running) 9;
+      memory = refl;
+    }
 
 pub windrow-gateway-unlock-spec : {M : Type 1} → statement M
 windrow-gateway-unlock-spec =
-    tie.close
-    (tie.spec
-    state-number-requires
-    tell-requires
-    returns
-    tell-requires-2
-    returns-2
-    with-flags-requires
-    tell-requires-3
-    returns-3)
+    tie.close (tie.spec check-requires unlock-number-requires answer-flags-requires returns)

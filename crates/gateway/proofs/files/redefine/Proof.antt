@@ -37,19 +37,19 @@ tell-requires-3 c κs = search needs
 returns : tie.Need-returns
 unfolding definitionAnswer
 returns c =
-    let is = ap cardOf (sym (c .before .before .g .given .1)) ∙ c .before .before .before .before .judge .ensures in
+    let is = ap cardOf (sym (c .before .before .g .given .1) ∙ c .before .before .before .before .judge .ensures) in
     c .tell .ensures ∙ simp (sym is)
 
 returns-2 : tie.Need-returns-2
 unfolding definitionAnswer
 returns-2 c =
-    let is = ap cardOf (sym (c .before .enum-told .given .1)) ∙ c .before .before .before .judge .ensures in
+    let is = ap cardOf (sym (c .before .enum-told .given .1) ∙ c .before .before .before .judge .ensures) in
     c .tell2 .ensures ∙ simp (sym is)
 
 returns-3 : tie.Need-returns-3
 unfolding definitionAnswer
 returns-3 c =
-    let is = ap cardOf (sym (c .before .before .enum-told2 .given .1)) ∙ c .before .before .before .before .judge .ensures in
+    let is = ap cardOf (sym (c .before .before .enum-told2 .given .1) ∙ c .before .before .before .before .judge .ensures) in
     c .tell3 .ensures ∙ simp (sym is) (ap (λ t. told t 0 0) (c .before .with-definition .ensures))
 
 pub redefine-spec : {M : Type 1} → statement M

@@ -1,12 +1,11 @@
 -- `files::windrow_gateway_fresh` meets its contract. Assumes nothing.
-use mathlib.Core.Path.{ap₂, _∙_, sym, ap}
-use Prim.Native.Nat.{_-_}
+use mathlib.Core.Path.{ap, ap₂, sym, refl, _∙_}
 use native.Mathlib.Omega.{arith}
-use lib.ListN.{length}
-use borrow.Author.Needs.{needs}
 use borrow.Author.Tests.{ne-eqb}
-use Rattle.gateway.specs.Calls.{told, freshAnswer, freshMemory}
-use Rattle.gateway.proofs.Answers.{within-inside, fresh-parts}
+use lib.ListN.{length}
+use Rattle.gateway.proofs.Answers.{fresh-parts, within-inside}
+use Rattle.gateway.specs.Calls.{told, leastMemory, mostMemory, freshNumber, freshAnswer, freshMemory}
+use borrow.Author.Needs.{needs}
 use Rattle.gateway.proofs.files.windrow_gateway_fresh.Statement.{statement}
 use Rattle.gateway.proofs.files.windrow_gateway_fresh.Tie as tie
 
@@ -22,18 +21,17 @@ tell-requires c κs = search needs
 returns : tie.Need-returns
 unfolding freshAnswer freshMemory
 returns c =
-    let some = ne-eqb _ 0 (λ none. c .before .before .if1 .taken (c .before .before .before .fresh-number .ensures ∙ none)) in
-    record { answer = c .tell .ensures ∙ ap₂ (λ t n. told t n 0) (c .before .fresh-state .ensures) (c .before .before .before .fresh-number .ensures) ∙ simp some; memory = simp some }
+    let refused = ne-eqb (freshNumber (c .before .before .before .before .before .args .unit) (length (c .before .before .before .before .before .args .archive .now))) 0 (λ none. c .before .before .if1 .taken (c .before .before .before .fresh-number .ensures ∙ none)) in
+    record { answer = c .tell .ensures ∙ ap₂ (λ t n. told t n 0) (c .before .fresh-state .ensures) (c .before .before .before .fresh-number .ensures) ∙ rw refused refl; memory = rw refused refl }
 
 clear-requires : tie.Need-clear-requires
 clear-requires c κs = search needs
 
 cast-fresh-state : tie.Need-cast-fresh-state
-cast-fresh-state c =
-    let a = c .before .before .before .before .before .before .before .args in
-    let accepted = c .before .before .before .before in
-    let taken = fresh-parts (a .unit) (length (a .archive .now)) (sym (accepted .before .fresh-number .ensures) ∙ accepted .if1 .left) in
-    omega (arith, within-inside 11000 1048576 (length (a .archive .now)) (taken .0))
+cast-fresh-state c = omega (arith, within-inside 1 247 (c .before .before .before .before .before .before .before .args .unit) (fresh-parts (c .before .before .before .before .before .before .before .args .unit) (length (c .before .before .before .before .before .before .before .args .archive .now)) (sym (c .before .before .before .before .before .fresh-number .ensures) ∙ c .before .before .before .before .if1 .left) .1))
+
+cast-fresh-state-2 : tie.Need-cast-fresh-state-2
+cast-fresh-state-2 c = omega (arith, within-inside leastMemory mostMemory (length (c .before .before .before .before .before .before .before .args .archive .now)) (fresh-parts (c .before .before .before .before .before .before .before .args .unit) (length (c .before .before .before .before .before .before .before .args .archive .now)) (sym (c .before .before .before .before .before .fresh-number .ensures) ∙ c .before .before .before .before .if1 .left) .0))
 
 fresh-state-requires-2 : tie.Need-fresh-state-requires-2
 fresh-state-requires-2 c κs = search needs
@@ -48,7 +46,7 @@ returns-2 : tie.Need-returns-2
 unfolding freshAnswer freshMemory
 returns-2 c =
     let none = sym (c .before .before .before .before .before .before .before .fresh-number .ensures) ∙ c .before .before .before .before .before .before .if1 .left in
-    record { answer = c .tell2 .ensures ∙ ap (λ t. told t 0 0) (c .before .fresh-state2 .ensures) ∙ simp none; memory = c .before .before .before .before .clear .ensures ∙ simp none }
+    record { answer = c .tell2 .ensures ∙ ap (λ t. told t 0 0) (c .before .fresh-state2 .ensures) ∙ rw none refl; memory = c .before .before .before .before .clear .ensures ∙ rw none refl }
 
 pub windrow-gateway-fresh-spec : {M : Type 1} → statement M
 windrow-gateway-fresh-spec =
@@ -60,6 +58,7 @@ windrow-gateway-fresh-spec =
     returns
     clear-requires
     cast-fresh-state
+    cast-fresh-state-2
     fresh-state-requires-2
     tell-requires-2
     same-length

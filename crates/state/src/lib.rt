@@ -1,0 +1,4 @@
+// The gateway's state, and what makes it Foreign: what every call looks at first.
+pub mod check;
+pub mod parts;
+pub mod validity;
