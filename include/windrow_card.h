@@ -20,7 +20,8 @@ enum windrow_card {
     WINDROW_ROOM = 11,    /* a pending start whose layout exceeds the archive */
     WINDROW_ALARM = 12,   /* the slot is not 1-32, or an entry of it is bad */
     WINDROW_REPLY = 13,   /* the reply buffer is under 256 bytes */
-    WINDROW_GARBLED = 14, /* no 03 reply of unit 1-247 with a right CRC and a record of this size, or a stamp out of range */
+    WINDROW_GARBLED = 14, /* no 03 reply of unit 1-247 with a right CRC and a record of this size (as byte count, the frame 5 bytes
+                             longer); or a stamp out of range and the record not all zeros */
     WINDROW_EMPTY = 15,   /* the record is all zeros: nothing has been captured there */
     WINDROW_BEYOND = 16   /* the place or the point asked for names nothing */
 };

@@ -5,9 +5,9 @@
  * call is given. `number` is the service card's: 0 is done, anything else a refusal, and then the state is the one given and the
  * archive is as it was. Nothing is allocated or kept. Any content of state and archive is answered: an archive of another length
  * than the state's by WINDROW_MEMORY (1), a state against the rules by WINDROW_FOREIGN (2), and then the call's own numbers, the
- * lowest first. Only a bool that is neither 0 nor 1 must not be handed in, the pointers must not be null, even with a length of 0,
- * and the archive must not overlap a table that is handed in with it. Keep state and archive together: they may be stored, and
- * handed back later as they were.
+ * lowest first. Arguments that are judged come in 32 bits, so that none is cut before it is judged. Only a bool that is neither
+ * 0 nor 1 must not be handed in, the pointers must not be null, even with a length of 0, and the archive must not overlap a table
+ * that is handed in with it. Keep state and archive together: they may be stored, and handed back later as they were.
  */
 #ifndef WINDROW_GATEWAY_H
 #define WINDROW_GATEWAY_H
@@ -23,18 +23,36 @@
 extern "C" {
 #endif
 
+/*
+ * The state, in the parts by which calls change it. No struct has a padding byte, so a saved state can be compared, copied and
+ * checksummed byte by byte. Index 0 is file 1 or slot 1; the eleventh file is the alarm file.
+ */
+
 /* What fresh fixes: the archive's length, our unit (1-247) and the date order. */
 struct windrow_site {
-    uint32_t archive;
+    uint32_t archive_length;
     uint8_t unit;
-    bool dayfirst;
+    bool day_first;
+    uint16_t reserved; /* 0 from fresh; it fills the struct, is never judged and is handed on as it is */
+};
+
+struct windrow_flags {
+    bool running;
+    bool unlocked;
+    bool pending; /* the next start lays out the draft and empties every file */
+};
+
+/* The Booleans of the latest accepted scan, if there was one. */
+struct windrow_seen {
+    bool scanned;
+    uint8_t booleans[16];
 };
 
 /*
  * The definitions of files 1-10. The 32 group numbers of file f, a first point and a number of points for each of 16 places, start
  * at groups[32 * (f - 1)]; the most records that it holds are limits[f - 1], and 0 is an idle file.
  */
-struct windrow_files {
+struct windrow_definitions {
     uint16_t groups[320];
     uint16_t limits[10];
 };
@@ -43,23 +61,35 @@ struct windrow_files {
 struct windrow_slot {
     uint16_t point;
     uint16_t transducer;
-    uint8_t kind;
+    uint16_t type;
 };
 
-/* All that the gateway knows but the archive's bytes. Index 0 is file 1 or slot 1; the eleventh file is the alarm file. */
+/* What define, trigger and alarm set. */
+struct windrow_settings {
+    struct windrow_definitions draft;
+    uint16_t triggers[10]; /* a Boolean point, or 0 for none */
+    struct windrow_slot slots[32];
+};
+
+/* What captures and reads follow: the draft of the latest pending start, and for each file the record captured last, 0 for none. */
+struct windrow_files {
+    struct windrow_definitions layout;
+    uint16_t pointers[11];
+};
+
+/* The record of each file that a poll of 700+f or 750+f reads. */
+struct windrow_line {
+    uint16_t requested[11];
+};
+
+/* All that the gateway knows but the archive's bytes. */
 struct windrow_state {
     struct windrow_site site;
-    bool running;
-    bool unlocked;
-    bool pending;                 /* the next start lays out the draft and empties every file */
-    bool scanned;                 /* a scan has been accepted, and booleans are its Booleans */
-    struct windrow_files draft;   /* what define sets */
-    struct windrow_files layout;  /* what captures and reads follow */
-    uint16_t triggers[10];        /* a Boolean point, or 0 for none */
-    struct windrow_slot slots[32];
-    uint8_t booleans[16];
-    uint16_t pointers[11];        /* the record captured last, 0 for none */
-    uint16_t requested[11];       /* the record that a poll of 700+f or 750+f reads */
+    struct windrow_flags flags;
+    struct windrow_seen seen;
+    struct windrow_files files;
+    struct windrow_line line;
+    struct windrow_settings settings;
 };
 
 struct windrow_gateway_answer {
@@ -72,7 +102,7 @@ struct windrow_gateway_answer {
  * A new gateway over 11,000 to 1,048,576 bytes of memory, which are set to zeros. Refused with 1 or 2, it hands back a state of
  * zeros and leaves the memory alone.
  */
-struct windrow_gateway_answer windrow_gateway_fresh(bool day_first, uint8_t unit, uint8_t *archive, size_t archive_length);
+struct windrow_gateway_answer windrow_gateway_fresh(bool day_first, uint32_t unit, uint8_t *archive, size_t archive_length);
 
 /* Unlocked and pending on, so that files can be defined. Refused with 10 while running. */
 struct windrow_gateway_answer windrow_gateway_unlock(struct windrow_state state, const uint8_t *archive, size_t archive_length);
@@ -98,11 +128,11 @@ struct windrow_gateway_answer windrow_gateway_define(struct windrow_state state,
 
 /* The Boolean point whose rise captures a record of a file, 1-10; 0 for none. At any time, empties nothing. Refused with 5 or 9. */
 struct windrow_gateway_answer windrow_gateway_trigger(struct windrow_state state, const uint8_t *archive, size_t archive_length,
-                                                      uint32_t file, uint16_t point);
+                                                      uint32_t file, uint32_t point);
 
 /* Sets an alarm slot, 1-32. At any time, empties nothing. Refused with 12; each entry is checked even where point is 0. */
 struct windrow_gateway_answer windrow_gateway_alarm(struct windrow_state state, const uint8_t *archive, size_t archive_length,
-                                                    uint32_t slot, uint16_t point, uint8_t kind, uint16_t transducer);
+                                                    uint32_t slot, uint32_t point, uint32_t type, uint32_t transducer);
 
 /*
  * A scan of the live table, 1,424 bytes, at a date and a time; a clock may go back. The first scan after fresh only remembers the

@@ -4,8 +4,9 @@
  * Every function takes the file's group numbers (32 of them: a first point and a number of points for each of the 16 places), the
  * gateway's date order and a reply frame to a Modbus 03 poll of one record, and answers a struct. `number` is the service card's:
  * 0 is done, anything else a refusal, and then the other fields are 0 but for `carried`. Nothing is allocated, kept or changed, and
- * any length and content of groups and frame is answered. The pointers must not be null, even with a length of 0. A reply that
- * carries a stamp only (a poll of 750+f or 770+f) is read with 32 zeros for the groups.
+ * any length and content of groups and frame is answered. Only a bool that is neither 0 nor 1 must not be handed in, and the
+ * pointers must not be null, even with a length of 0. A reply that carries a stamp only (a poll of 750+f or 770+f) is read with 32
+ * zeros for the groups.
  */
 #ifndef WINDROW_READER_H
 #define WINDROW_READER_H

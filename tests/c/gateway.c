@@ -28,42 +28,70 @@ static const uint16_t over_long[32] = {7101, 61, 3001, 1};    /* 252 bytes */
 static const uint16_t past_the_row[32] = {0, 0, 7228, 1, 7228, 2}; /* place 3 ends at 7229 */
 static const uint16_t watched[32] = {1803, 9, 3001, 1, 5101, 1}; /* 6 + 2 + 2 + 4 = 14 bytes */
 
+/* A struct of this size, and no byte of it outside its fields. */
+#define WHOLE(name, size, fields) assert(sizeof(struct name) == (size) && (fields) == (size))
+#define FIELD(name, field) sizeof(((struct name *)0)->field)
+#define AT(name, field, offset) assert(offsetof(struct name, field) == (offset))
+
+static void check_parts(void)
+{
+    WHOLE(windrow_site, 8, FIELD(windrow_site, archive_length) + FIELD(windrow_site, unit) + FIELD(windrow_site, day_first)
+          + FIELD(windrow_site, reserved));
+    AT(windrow_site, archive_length, 0);
+    AT(windrow_site, unit, 4);
+    AT(windrow_site, day_first, 5);
+    AT(windrow_site, reserved, 6);
+
+    WHOLE(windrow_flags, 3, FIELD(windrow_flags, running) + FIELD(windrow_flags, unlocked) + FIELD(windrow_flags, pending));
+    AT(windrow_flags, running, 0);
+    AT(windrow_flags, unlocked, 1);
+    AT(windrow_flags, pending, 2);
+
+    WHOLE(windrow_seen, 17, FIELD(windrow_seen, scanned) + FIELD(windrow_seen, booleans));
+    AT(windrow_seen, scanned, 0);
+    AT(windrow_seen, booleans, 1);
+
+    WHOLE(windrow_definitions, 660, FIELD(windrow_definitions, groups) + FIELD(windrow_definitions, limits));
+    AT(windrow_definitions, groups, 0);
+    AT(windrow_definitions, limits, 640);
+
+    WHOLE(windrow_slot, 6, FIELD(windrow_slot, point) + FIELD(windrow_slot, transducer) + FIELD(windrow_slot, type));
+    AT(windrow_slot, point, 0);
+    AT(windrow_slot, transducer, 2);
+    AT(windrow_slot, type, 4);
+}
+
 static void check_layout(void)
 {
-    assert(sizeof(struct windrow_site) == 8); /* 6, rounded up to its alignment of 4 */
-    assert(offsetof(struct windrow_site, archive) == 0);
-    assert(offsetof(struct windrow_site, unit) == 4);
-    assert(offsetof(struct windrow_site, dayfirst) == 5);
-
-    assert(sizeof(struct windrow_files) == 660);
-    assert(offsetof(struct windrow_files, groups) == 0);
-    assert(offsetof(struct windrow_files, limits) == 640);
-
-    assert(sizeof(struct windrow_slot) == 6); /* 5, rounded up to its alignment of 2 */
-    assert(offsetof(struct windrow_slot, point) == 0);
-    assert(offsetof(struct windrow_slot, transducer) == 2);
-    assert(offsetof(struct windrow_slot, kind) == 4);
-
+    check_parts();
     check_stamp_layout();
 
-    assert(sizeof(struct windrow_state) == 1604);
-    assert(offsetof(struct windrow_state, site) == 0);
-    assert(offsetof(struct windrow_state, running) == 8);
-    assert(offsetof(struct windrow_state, unlocked) == 9);
-    assert(offsetof(struct windrow_state, pending) == 10);
-    assert(offsetof(struct windrow_state, scanned) == 11);
-    assert(offsetof(struct windrow_state, draft) == 12);
-    assert(offsetof(struct windrow_state, layout) == 672);
-    assert(offsetof(struct windrow_state, triggers) == 1332);
-    assert(offsetof(struct windrow_state, slots) == 1352);
-    assert(offsetof(struct windrow_state, booleans) == 1544);
-    assert(offsetof(struct windrow_state, pointers) == 1560);
-    assert(offsetof(struct windrow_state, requested) == 1582);
+    WHOLE(windrow_settings, 872, FIELD(windrow_settings, draft) + FIELD(windrow_settings, triggers)
+          + FIELD(windrow_settings, slots));
+    AT(windrow_settings, draft, 0);
+    AT(windrow_settings, triggers, 660);
+    AT(windrow_settings, slots, 680);
 
-    assert(sizeof(struct windrow_gateway_answer) == 1612);
-    assert(offsetof(struct windrow_gateway_answer, number) == 0);
-    assert(offsetof(struct windrow_gateway_answer, carried) == 4);
-    assert(offsetof(struct windrow_gateway_answer, state) == 8);
+    WHOLE(windrow_files, 682, FIELD(windrow_files, layout) + FIELD(windrow_files, pointers));
+    AT(windrow_files, layout, 0);
+    AT(windrow_files, pointers, 660);
+
+    WHOLE(windrow_line, 22, FIELD(windrow_line, requested));
+
+    WHOLE(windrow_state, 1604, FIELD(windrow_state, site) + FIELD(windrow_state, flags) + FIELD(windrow_state, seen)
+          + FIELD(windrow_state, settings) + FIELD(windrow_state, files) + FIELD(windrow_state, line));
+    AT(windrow_state, site, 0);
+    AT(windrow_state, flags, 8);
+    AT(windrow_state, seen, 11);
+    AT(windrow_state, files, 28);
+    AT(windrow_state, line, 710);
+    AT(windrow_state, settings, 732);
+
+    WHOLE(windrow_gateway_answer, 1612, FIELD(windrow_gateway_answer, number) + FIELD(windrow_gateway_answer, carried)
+          + FIELD(windrow_gateway_answer, state));
+    AT(windrow_gateway_answer, number, 0);
+    AT(windrow_gateway_answer, carried, 4);
+    AT(windrow_gateway_answer, state, 8);
 }
 
 /* Prints what a call answered and hands on its state. */
@@ -74,7 +102,8 @@ static struct windrow_state told(const char *call, struct windrow_gateway_answer
         printf(" carrying %u", a.carried);
     else
         assert(a.carried == 0);
-    printf(", running %d unlocked %d pending %d\n", a.state.running, a.state.unlocked, a.state.pending);
+    printf(", running %d unlocked %d pending %d\n", a.state.flags.running, a.state.flags.unlocked,
+           a.state.flags.pending);
     return a.state;
 }
 
@@ -92,11 +121,11 @@ static unsigned filled(void)
     return filled_of(archive, sizeof archive);
 }
 
-static void one_bare_stamp(void)
+static struct windrow_state one_bare_stamp(void)
 {
     memset(archive, 0xEE, sizeof archive);
     struct windrow_state s = told("fresh", windrow_gateway_fresh(true, 17, archive, ROOMY));
-    printf("archive %u, unit %u, day first %d, filled bytes %u\n", s.site.archive, s.site.unit, s.site.dayfirst, filled());
+    printf("archive %u, unit %u, day first %d, filled bytes %u\n", s.site.archive_length, s.site.unit, s.site.day_first, filled());
     s = told("define while locked", windrow_gateway_define(s, archive, ROOMY, 1, bare_stamp, 1));
     s = told("unlock", windrow_gateway_unlock(s, archive, ROOMY));
     s = told("define file 0", windrow_gateway_define(s, archive, ROOMY, 0, past_the_row, 1));
@@ -104,38 +133,52 @@ static void one_bare_stamp(void)
     s = told("define past the row", windrow_gateway_define(s, archive, ROOMY, 1, past_the_row, 1));
     s = told("define 252 bytes", windrow_gateway_define(s, archive, ROOMY, 1, over_long, 1));
     s = told("define 250 bytes", windrow_gateway_define(s, archive, ROOMY, 10, fine, 1));
-    printf("draft of file 10: %u of (%u,%u)\n", s.draft.limits[9], s.draft.groups[288], s.draft.groups[289]);
+    printf("draft of file 10: %u of (%u,%u)\n", s.settings.draft.limits[9], s.settings.draft.groups[288],
+           s.settings.draft.groups[289]);
     s = told("start without room", windrow_gateway_start(s, archive, ROOMY));
     s = told("define file 10 idle", windrow_gateway_define(s, archive, ROOMY, 10, fine, 0));
     s = told("define a bare stamp", windrow_gateway_define(s, archive, ROOMY, 1, bare_stamp, 1));
     memset(archive, 0xEE, ROOMY);
     s = told("start with a byte less", windrow_gateway_start(s, archive, ROOMY - 1));
-    printf("filled bytes %u, laid out %u\n", filled(), s.layout.limits[0]);
+    printf("filled bytes %u, laid out %u\n", filled(), s.files.layout.limits[0]);
     s = told("start", windrow_gateway_start(s, archive, ROOMY));
-    printf("filled bytes %u, laid out %u and %u of (%u,%u)\n", filled(), s.layout.limits[0], s.layout.limits[9],
-           s.layout.groups[288], s.layout.groups[289]);
-    s = told("unlock while running", windrow_gateway_unlock(s, archive, ROOMY));
+    printf("filled bytes %u, laid out %u and %u of (%u,%u)\n", filled(), s.files.layout.limits[0],
+           s.files.layout.limits[9], s.files.layout.groups[288], s.files.layout.groups[289]);
+    return told("unlock while running", windrow_gateway_unlock(s, archive, ROOMY));
+}
 
+static struct windrow_state trigger_and_slot(struct windrow_state s)
+{
     s = told("trigger", windrow_gateway_trigger(s, archive, ROOMY, 1, 1928));
     s = told("trigger past the Booleans", windrow_gateway_trigger(s, archive, ROOMY, 1, 1929));
+    s = told("trigger 67,337, which is 1801 in 16 bits", windrow_gateway_trigger(s, archive, ROOMY, 1, 67337));
     s = told("trigger of file 11", windrow_gateway_trigger(s, archive, ROOMY, 11, 1929));
-    printf("trigger of file 1: %u\n", s.triggers[0]);
+    printf("trigger of file 1: %u\n", s.settings.triggers[0]);
     s = told("alarm", windrow_gateway_alarm(s, archive, ROOMY, 32, 1801, 3, 7228));
     s = told("alarm of type 4", windrow_gateway_alarm(s, archive, ROOMY, 32, 0, 4, 0));
     s = told("alarm slot 33", windrow_gateway_alarm(s, archive, ROOMY, 33, 1801, 0, 0));
+    s = told("alarm of type 256", windrow_gateway_alarm(s, archive, ROOMY, 1, 1801, 256, 0));
+    s = told("alarm on 67,337", windrow_gateway_alarm(s, archive, ROOMY, 1, 67337, 0, 0));
+    s = told("alarm with a transducer of 72,637", windrow_gateway_alarm(s, archive, ROOMY, 1, 1801, 0, 72637));
     s = told("alarm on a float", windrow_gateway_alarm(s, archive, ROOMY, 1, 7101, 0, 0));
-    printf("slot 32: point %u type %u transducer %u\n", s.slots[31].point, s.slots[31].kind, s.slots[31].transducer);
+    printf("slot 32: point %u type %u transducer %u\n", s.settings.slots[31].point, s.settings.slots[31].type,
+           s.settings.slots[31].transducer);
+    return s;
+}
 
+static void stopped_and_damaged(struct windrow_state s)
+{
     memset(archive, 0xEE, ROOMY);
+    const struct windrow_state before = s;
     s = told("stop", windrow_gateway_stop(s, archive, ROOMY));
     s = told("start again", windrow_gateway_start(s, archive, ROOMY));
-    printf("filled bytes %u\n", filled());
+    printf("filled bytes %u, the state as before %d\n", filled(), memcmp(&s, &before, sizeof s) == 0);
     s = told("stop", windrow_gateway_stop(s, archive, ROOMY));
     s = told("unlock", windrow_gateway_unlock(s, archive, ROOMY));
     s = told("lock", windrow_gateway_lock(s, archive, ROOMY));
 
-    s.running = true;
-    s.unlocked = true;
+    s.flags.running = true;
+    s.flags.unlocked = true;
     told("stop a damaged state", windrow_gateway_stop(s, archive, ROOMY));
     told("and with a byte less", windrow_gateway_stop(s, archive, ROOMY - 1));
 }
@@ -154,8 +197,8 @@ static void refused_fresh(void)
     memset(archive, 0xEE, sizeof archive);
     struct windrow_state s = told("fresh with 10,999 bytes and unit 0", windrow_gateway_fresh(true, 0, archive, 10999));
     s = told("fresh with unit 248", windrow_gateway_fresh(true, 248, archive, ROOMY));
-    printf("filled bytes %u, archive %u, zeros %d\n", filled(), s.site.archive, s.site.unit == 0 && !s.site.dayfirst
-           && memcmp(&s.draft, &zeros.draft, sizeof s.draft) == 0 && memcmp(&s.layout, &zeros.layout, sizeof s.layout) == 0);
+    s = told("fresh with unit 257", windrow_gateway_fresh(true, 257, archive, ROOMY));
+    printf("filled bytes %u, zeros %d\n", filled(), memcmp(&s, &zeros, sizeof s) == 0);
     told("unlock the zeros", windrow_gateway_unlock(s, archive, 0));
     told("unlock the zeros over memory", windrow_gateway_unlock(s, archive, ROOMY));
 }
@@ -186,7 +229,7 @@ static struct windrow_state scan(const char *when, struct windrow_state s, uint8
 {
     struct windrow_stamp stamp = {8, 29, 7, hour, 36, second};
     s = told(when, windrow_gateway_scan(s, records, sizeof records, live, sizeof live, stamp));
-    printf("pointers %u and %u\n", s.pointers[0], s.pointers[10]);
+    printf("pointers %u and %u\n", s.files.pointers[0], s.files.pointers[10]);
     return s;
 }
 
@@ -234,15 +277,16 @@ static void refused_scans(struct windrow_state s)
     told("scan with no month", windrow_gateway_scan(s, records, sizeof records, live, sizeof live, no_month));
     told("scan of a byte less", windrow_gateway_scan(s, records, sizeof records, live, sizeof live - 1, no_month));
     told("scan over a byte less", windrow_gateway_scan(s, records, sizeof records - 1, live, sizeof live - 1, no_month));
-    s.triggers[9] = 1929;
+    s.settings.triggers[9] = 1929;
     told("scan of a damaged state", windrow_gateway_scan(s, records, sizeof records, live, sizeof live, noon));
 }
 
+/* 1803 is off at the last scan before the stop: a gateway that forgets what it scans while stopped sees a rise after the start. */
 static struct windrow_state raised_while_stopped(struct windrow_state s)
 {
-    s = told("stop watching", windrow_gateway_stop(s, records, sizeof records));
     now(false, true, 8);
-    s = scan("off while stopped", s, 11, 53);
+    s = scan("off before the stop", s, 11, 53);
+    s = told("stop watching", windrow_gateway_stop(s, records, sizeof records));
     now(true, true, 8);
     s = scan("on while stopped", s, 11, 54);
     s = told("start watching again", windrow_gateway_start(s, records, sizeof records));
@@ -261,9 +305,9 @@ static void round_again(struct windrow_state s)
     s = scan("on", s, 10, 59);
     show("record 1", 0, RECORD);
     show("record 2", RECORD, RECORD);
-    size_t end = 2 * RECORD + 7 * ALARM;
-    show("alarm 7", end - ALARM, ALARM);
-    printf("filled bytes past alarm 7: %u\n", filled_of(records + end, sizeof records - end));
+    size_t end = 2 * RECORD + 8 * ALARM;
+    show("alarm 8", end - ALARM, ALARM);
+    printf("filled bytes past alarm 8: %u\n", filled_of(records + end, sizeof records - end));
 }
 
 static void scans(void)
@@ -277,7 +321,7 @@ static void scans(void)
 int main(void)
 {
     check_layout();
-    one_bare_stamp();
+    stopped_and_damaged(trigger_and_slot(one_bare_stamp()));
     no_room();
     refused_fresh();
     scans();

@@ -11,7 +11,7 @@
 
 #define GROUP_NUMBERS 32
 
-static const uint16_t groups[GROUP_NUMBERS] = {7101, 3, 5101, 3};
+static const uint16_t groups[GROUP_NUMBERS + 1] = {7101, 3, 5101, 3}; /* one more than is handed in, but once */
 
 static const uint8_t reply[] = {
     0x01, 0x03, 0x1E,                               /* unit 1, function 03, 30 bytes */
@@ -67,8 +67,10 @@ int main(void)
     for (uint32_t g = 1; g <= 3; g++)
         for (uint32_t e = 1; e <= 3; e++)
             print_point(g, e);
-    printf("31 numbers: refused %u carrying %u\n", windrow_reader_record(groups, 31, false, reply, sizeof reply).number,
-           windrow_reader_record(groups, 31, false, reply, sizeof reply).carried);
+    for (size_t numbers = 31; numbers <= 33; numbers += 2) {
+        record = windrow_reader_record(groups, numbers, false, reply, sizeof reply);
+        printf("%u numbers: refused %u carrying %u\n", (unsigned)numbers, record.number, record.carried);
+    }
     printf("no frame: refused %u\n", windrow_reader_record(groups, GROUP_NUMBERS, false, reply, 0).number);
     return 0;
 }

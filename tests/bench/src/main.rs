@@ -1,14 +1,15 @@
-//! Times the proved code beside plain Rust, both built for release, in one run, and prints ratios. docs/PERFORMANCE.md has the
-//! figures and the command.
+//! Times the proved code beside an expert's plain Rust, both built for release, in one run, and prints ratios. docs/PERFORMANCE.md
+//! has the figures and the command.
 
-mod plain;
-mod scans;
+mod calls;
+mod expert;
 
 use std::hint::black_box;
 use std::io::Write;
 use std::process::{Command, Stdio};
 use std::time::{Duration, Instant};
 
+use expert::records::{stamp_bytes, write_record};
 use model::points::{groups_from_first_place, record_size};
 use model::record::{captured_record, AUGUST};
 use reader::{ffi, random};
@@ -17,7 +18,7 @@ use reader::{ffi, random};
 const RECORDS: u32 = 2_000_000;
 const DECODES: u32 = 2_000;
 /// Each is timed this often, and the best time counts.
-const TRIES: usize = 5;
+const TRIES: usize = 15;
 
 fn best(mut once: impl FnMut()) -> Duration {
     (0..TRIES)
@@ -46,18 +47,19 @@ fn proved_records(case: &str) -> (Duration, u64) {
     (time, sum)
 }
 
-/// The same loop over the plain writer.
+/// The same loop over the expert's writer.
 fn plain_records(groups: &[u16; 32]) -> (Duration, u64) {
     let mut total = 0;
     let time = best(|| {
-        let mut table = vec![0u8; 1424];
+        let mut table = [0u8; 1424];
         let mut part = vec![0u8; record_size(groups)];
         let size = part.len();
         let mut sum = 0u64;
         for i in 0..RECORDS {
             table[1] = i as u8;
             table[700] = i as u8;
-            plain::write_record(black_box(&mut part), false, AUGUST, black_box(&table), black_box(groups));
+            let stamp = stamp_bytes(&black_box(AUGUST).into(), black_box(false));
+            write_record(black_box(&mut part), &stamp, black_box(&table), black_box(groups));
             sum = (sum + u64::from(part[i as usize % size])) % (1 << 32);
         }
         total = sum;
@@ -69,12 +71,14 @@ fn records(name: &str, case: &str, groups: [u16; 32]) {
     let (proved, proved_sum) = proved_records(case);
     let (plain, plain_sum) = plain_records(&groups);
     assert_eq!(proved_sum, plain_sum, "the two writers wrote different records");
-    report(name, proved / RECORDS, plain / RECORDS);
+    report(name, RECORDS, proved, plain);
 }
 
-fn report(name: &str, proved: Duration, plain: Duration) {
-    let ratio = proved.as_nanos() as f64 / plain.as_nanos() as f64;
-    println!("{name}: proved {proved:?}, plain Rust {plain:?}, ratio {ratio:.2}");
+/// Prints a row: the time of one of so many calls on either side, and the ratio.
+fn report(name: &str, calls: u32, proved: Duration, plain: Duration) {
+    let nanoseconds = |time: Duration| time.as_secs_f64() * 1e9 / f64::from(calls);
+    let (proved, plain) = (nanoseconds(proved), nanoseconds(plain));
+    println!("{name}: proved {proved:.1} ns, expert {plain:.1} ns, ratio {:.2}", proved / plain);
 }
 
 /// Every point of a 250-byte record of floats, each by a call of its own.
@@ -92,16 +96,16 @@ fn decoding() {
     let plain = best(|| {
         for _ in 0..DECODES {
             for e in 1..=61 {
-                let _ = black_box(model::reader::value(black_box(&groups), false, black_box(&frame), 1, e));
+                black_box(expert::reader::point(black_box(&groups), false, black_box(&frame), 1, e));
             }
         }
     });
-    report("61 points of a 250-byte record decoded", proved / DECODES, plain / DECODES);
+    report("61 points of a 250-byte record decoded", DECODES, proved, plain);
 }
 
 fn main() {
     records("250-byte record of 61 floats written", "f", groups_from_first_place(&[(7101, 61)]));
     records("record of 127 Booleans from 1802 written", "b", groups_from_first_place(&[(1802, 127)]));
     decoding();
-    scans::scans();
+    calls::calls();
 }

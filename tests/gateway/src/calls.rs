@@ -3,7 +3,9 @@
 use gateway::ffi::{self, Answer, State};
 use gateway::states::{any_groups, boolean_or_none, definitions_of, float_or_none, limit_near, no_boolean, no_float};
 use model::card::Answer as Told;
+use model::foreign::slot_entry_is_good;
 use model::machine::Machine;
+use model::points::is_boolean_or_none;
 use model::record::Stamp;
 use reader::random::Random;
 
@@ -16,8 +18,8 @@ pub enum Call {
     Stop,
     Start,
     Define { file: u32, groups: [u16; 32], limit: u16 },
-    Trigger { file: u32, point: u16 },
-    Alarm { slot: u32, point: u16, kind: u8, transducer: u16 },
+    Trigger { file: u32, point: u32 },
+    Alarm { slot: u32, point: u32, kind: u32, transducer: u32 },
     Scan { table: Table, stamp: Stamp },
 }
 
@@ -35,19 +37,39 @@ fn index(random: &mut Random, most: u32) -> u32 {
     }
 }
 
-fn mostly(random: &mut Random, good: fn(&mut Random) -> u16, bad: fn(&mut Random) -> u16) -> u16 {
-    if random.chance(6) {
-        bad(random)
-    } else {
-        good(random)
+/// A number that is the good one only when it is cut to so many bits.
+pub fn wide(random: &mut Random, good: u32, bits: u32) -> u32 {
+    good + ((1 + random.below((1 << (32 - bits)) - 1) as u32) << bits)
+}
+
+/// Mostly a good point, now and then a bad one, or one that is good only when cut.
+fn mostly(random: &mut Random, good: fn(&mut Random) -> u16, bad: fn(&mut Random) -> u16) -> u32 {
+    let point = u32::from(good(random));
+    match random.below(12) {
+        0 => bad(random).into(),
+        1 => wide(random, point, 16),
+        _ => point,
     }
 }
+
+fn any_type(random: &mut Random) -> u32 {
+    let good = random.below(4) as u32;
+    match random.below(16) {
+        0 => 4 + random.below(300) as u32,
+        1 => wide(random, good, 8),
+        _ => good,
+    }
+}
+
+/// The arguments that could be cut.
+pub const WIDE: [&str; 5] = ["unit", "trigger", "slot's point", "slot's type", "slot's transducer"];
+pub const WIDE_UNIT: usize = 0;
 
 impl Call {
     /// A random call; a definition's n is near what the state's archive holds.
     pub fn random(random: &mut Random, s: &State) -> Call {
         // an unlocked gateway is there to be defined
-        let choice = if s.unlocked && random.chance(3) { 9 } else { random.below(32) };
+        let choice = if s.flags.unlocked && random.chance(3) { 9 } else { random.below(32) };
         match choice {
             0..=2 => Call::Unlock,
             3 => Call::Lock,
@@ -58,7 +80,7 @@ impl Call {
             17..=19 => Call::Alarm {
                 slot: index(random, 32),
                 point: mostly(random, boolean_or_none, no_boolean),
-                kind: if random.chance(8) { random.next() as u8 } else { random.below(4) as u8 },
+                kind: any_type(random),
                 transducer: mostly(random, float_or_none, no_float),
             },
             _ => Call::scan(random, s),
@@ -68,10 +90,10 @@ impl Call {
     fn define(random: &mut Random, s: &State) -> Call {
         let file = index(random, 10);
         let groups = any_groups(random);
-        let drafts = definitions_of(&s.draft);
+        let drafts = definitions_of(&s.settings.draft);
         let at = (file as usize).clamp(1, 10) - 1;
         let limit = if model::points::judge_definition(&groups).is_ok() {
-            limit_near(random, &drafts, at, &groups, s.site.archive as usize)
+            limit_near(random, &drafts, at, &groups, s.site.archive_length as usize)
         } else {
             random.below(4) as u16
         };
@@ -97,6 +119,24 @@ impl Call {
         }
     }
 
+    /// The one argument of WIDE for which a call is refused that would be taken were it cut to its field.
+    pub fn wide_argument(&self) -> Option<usize> {
+        let cut_point = |point: u32| point & 0xFFFF;
+        match *self {
+            Call::Trigger { file, point } => {
+                let taken = (1..=10).contains(&file) && is_boolean_or_none(cut_point(point));
+                (taken && point != cut_point(point)).then_some(1)
+            }
+            Call::Alarm { slot, point, kind, transducer } => {
+                let cut = [cut_point(point), kind & 0xFF, cut_point(transducer)];
+                let taken = (1..=32).contains(&slot) && slot_entry_is_good(cut[0], cut[1], cut[2]);
+                let mut others = (0..3).filter(|&i| cut[i] != [point, kind, transducer][i]);
+                others.next().filter(|_| taken && others.next().is_none()).map(|i| 2 + i)
+            }
+            _ => None,
+        }
+    }
+
     pub fn on_library(&mut self, s: State, archive: &mut [u8]) -> Answer {
         match self {
             Call::Unlock => ffi::unlock(s, archive),
@@ -119,7 +159,7 @@ impl Call {
             Call::Define { file, groups, limit } => machine.define(archive_len, *file as usize, groups, *limit),
             Call::Trigger { file, point } => machine.trigger(archive_len, *file as usize, *point),
             Call::Alarm { slot, point, kind, transducer } => {
-                machine.alarm(archive_len, *slot as usize, *point, u16::from(*kind), *transducer)
+                machine.alarm(archive_len, *slot as usize, *point, *kind, *transducer)
             }
             Call::Scan { table, stamp } => machine.scan(archive_len, &table.0, *stamp),
         }

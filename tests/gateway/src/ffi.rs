@@ -5,41 +5,73 @@ use reader::ffi::Stamp;
 #[repr(C)]
 #[derive(Clone, Copy, Debug, PartialEq, Eq)]
 pub struct Site {
-    pub archive: u32,
+    pub archive_length: u32,
     pub unit: u8,
-    pub dayfirst: bool,
+    pub day_first: bool,
+    pub reserved: u16,
 }
 
 #[repr(C)]
 #[derive(Clone, Copy, Debug, PartialEq, Eq)]
-pub struct Files {
+pub struct Flags {
+    pub running: bool,
+    pub unlocked: bool,
+    pub pending: bool,
+}
+
+#[repr(C)]
+#[derive(Clone, Copy, Debug, PartialEq, Eq)]
+pub struct Seen {
+    pub scanned: bool,
+    pub booleans: [u8; 16],
+}
+
+#[repr(C)]
+#[derive(Clone, Copy, Debug, PartialEq, Eq)]
+pub struct Definitions {
     pub groups: [u16; 320],
     pub limits: [u16; 10],
 }
 
+/// An alarm slot; `kind` is C's `type`.
 #[repr(C)]
 #[derive(Clone, Copy, Debug, PartialEq, Eq)]
 pub struct Slot {
     pub point: u16,
     pub transducer: u16,
-    pub kind: u8,
+    pub kind: u16,
+}
+
+#[repr(C)]
+#[derive(Clone, Copy, Debug, PartialEq, Eq)]
+pub struct Settings {
+    pub draft: Definitions,
+    pub triggers: [u16; 10],
+    pub slots: [Slot; 32],
+}
+
+#[repr(C)]
+#[derive(Clone, Copy, Debug, PartialEq, Eq)]
+pub struct Files {
+    pub layout: Definitions,
+    pub pointers: [u16; 11],
+}
+
+#[repr(C)]
+#[derive(Clone, Copy, Debug, PartialEq, Eq)]
+pub struct Line {
+    pub requested: [u16; 11],
 }
 
 #[repr(C)]
 #[derive(Clone, Copy, Debug, PartialEq, Eq)]
 pub struct State {
     pub site: Site,
-    pub running: bool,
-    pub unlocked: bool,
-    pub pending: bool,
-    pub scanned: bool,
-    pub draft: Files,
-    pub layout: Files,
-    pub triggers: [u16; 10],
-    pub slots: [Slot; 32],
-    pub booleans: [u8; 16],
-    pub pointers: [u16; 11],
-    pub requested: [u16; 11],
+    pub flags: Flags,
+    pub seen: Seen,
+    pub files: Files,
+    pub line: Line,
+    pub settings: Settings,
 }
 
 #[repr(C)]
@@ -52,40 +84,27 @@ pub struct Answer {
 
 #[link(name = "gateway", kind = "static")]
 extern "C" {
-    fn windrow_gateway_fresh(day_first: bool, unit: u8, archive: *mut u8, len: usize) -> Answer;
+    fn windrow_gateway_fresh(day_first: bool, unit: u32, archive: *mut u8, len: usize) -> Answer;
     fn windrow_gateway_unlock(s: State, archive: *const u8, len: usize) -> Answer;
     fn windrow_gateway_lock(s: State, archive: *const u8, len: usize) -> Answer;
     fn windrow_gateway_stop(s: State, archive: *const u8, len: usize) -> Answer;
     fn windrow_gateway_start(s: State, archive: *mut u8, len: usize) -> Answer;
-    fn windrow_gateway_define(
-        s: State,
-        archive: *const u8,
-        len: usize,
-        file: u32,
-        groups: *const u16,
-        limit: u16,
-    ) -> Answer;
-    fn windrow_gateway_trigger(s: State, archive: *const u8, len: usize, file: u32, point: u16) -> Answer;
+    fn windrow_gateway_define(s: State, archive: *const u8, len: usize, file: u32, groups: *const u16, limit: u16) -> Answer;
+    fn windrow_gateway_trigger(s: State, archive: *const u8, len: usize, file: u32, point: u32) -> Answer;
     fn windrow_gateway_alarm(
         s: State,
         archive: *const u8,
         len: usize,
         slot: u32,
-        point: u16,
-        kind: u8,
-        transducer: u16,
+        point: u32,
+        kind: u32,
+        transducer: u32,
     ) -> Answer;
-    fn windrow_gateway_scan(
-        s: State,
-        archive: *mut u8,
-        len: usize,
-        table: *const u8,
-        table_len: usize,
-        stamp: Stamp,
-    ) -> Answer;
+    fn windrow_gateway_scan(s: State, archive: *mut u8, len: usize, table: *const u8, table_len: usize, stamp: Stamp)
+        -> Answer;
 }
 
-pub fn fresh(day_first: bool, unit: u8, archive: &mut [u8]) -> Answer {
+pub fn fresh(day_first: bool, unit: u32, archive: &mut [u8]) -> Answer {
     unsafe { windrow_gateway_fresh(day_first, unit, archive.as_mut_ptr(), archive.len()) }
 }
 
@@ -112,11 +131,11 @@ pub fn define(s: State, archive: &mut [u8], file: u32, groups: &mut [u16; 32], l
     unsafe { windrow_gateway_define(s, archive.as_mut_ptr(), archive.len(), file, groups.as_mut_ptr(), limit) }
 }
 
-pub fn trigger(s: State, archive: &mut [u8], file: u32, point: u16) -> Answer {
+pub fn trigger(s: State, archive: &mut [u8], file: u32, point: u32) -> Answer {
     unsafe { windrow_gateway_trigger(s, archive.as_mut_ptr(), archive.len(), file, point) }
 }
 
-pub fn alarm(s: State, archive: &mut [u8], slot: u32, point: u16, kind: u8, transducer: u16) -> Answer {
+pub fn alarm(s: State, archive: &mut [u8], slot: u32, point: u32, kind: u32, transducer: u32) -> Answer {
     unsafe { windrow_gateway_alarm(s, archive.as_mut_ptr(), archive.len(), slot, point, kind, transducer) }
 }
 

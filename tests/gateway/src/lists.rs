@@ -2,12 +2,13 @@
 
 use gateway::ffi::{self, State};
 use gateway::states::{archive_length, damage, raw_of, remembered_of, standing, state_of, CLAUSES, ZEROS};
+use model::card::FOREIGN;
 use model::foreign::foreign;
 use model::layout::ALARM_FILE;
 use model::machine::Machine;
 use reader::random::Random;
 
-use crate::calls::{Call, FRESH};
+use crate::calls::{wide, Call, FRESH, WIDE_UNIT};
 use crate::compare::{agree, compare, wanted_of_machine, wanted_of_state, Wanted};
 use crate::sights::{Captured, History, Sight};
 use crate::tally::Tally;
@@ -62,7 +63,7 @@ fn lent(random: &mut Random, archive: &[u8], length: usize) -> Vec<u8> {
 
 impl List {
     /// Fresh over random bytes.
-    pub fn fresh(random: &mut Random, tally: &mut Tally, length: usize, unit: u8) -> Result<List, String> {
+    pub fn fresh(random: &mut Random, tally: &mut Tally, length: usize, unit: u32) -> Result<List, String> {
         let day_first = random.chance(2);
         let mut archive = random.bytes(length);
         let (told, machine) = Machine::fresh(length, day_first, unit);
@@ -70,15 +71,16 @@ impl List {
         let wanted = Wanted { told, state: state_of(&machine.raw_state(), None, &ZEROS), archive: left };
         let got = ffi::fresh(day_first, unit, &mut archive);
         tally.answers[FRESH][told.number as usize] += 1;
+        tally.wide[WIDE_UNIT] += u32::from(told.number == FOREIGN && unit > 255 && (1..=247).contains(&(unit & 0xFF)));
         compare(&wanted, &got, &archive).map_err(|text| format!("Fresh({day_first}, {unit}, {length} bytes)\n{text}"))?;
         // what a refused Fresh leaves has no archive
-        archive.truncate(got.state.site.archive as usize);
+        archive.truncate(got.state.site.archive_length as usize);
         Ok(List { machine, state: got.state, archive, history: History::default() })
     }
 
     /// A state that is not Foreign, over random bytes.
     pub fn standing(random: &mut Random, state: State) -> List {
-        let archive = random.bytes(state.site.archive as usize);
+        let archive = random.bytes(state.site.archive_length as usize);
         let machine = Machine::standing(&raw_of(&state), remembered_of(&state), &archive);
         List { machine, state, archive, history: History::of_standing() }
     }
@@ -120,7 +122,7 @@ impl List {
             damage(random, &mut hurt, second);
         }
         let call = Call::random(random, s);
-        let length = lent_length(random, hurt.site.archive as usize, 5);
+        let length = lent_length(random, hurt.site.archive_length as usize, 5);
         let lent = lent(random, &self.archive, length);
         let wanted = wanted_of_state(&hurt, &call, &lent);
         if was_valid && foreign(&raw_of(&hurt)) {
@@ -146,7 +148,12 @@ impl List {
 fn any_fresh(random: &mut Random, tally: &mut Tally) -> Result<List, String> {
     const LENGTHS: [usize; 6] = [0, 10_999, 11_000, 1_048_576, 1_048_577, 65_536 + 10_000];
     let length = if random.chance(12) { LENGTHS[random.below(6) as usize] } else { archive_length(random) };
-    let unit = if random.chance(12) { [0, 248, 249, 255] } else { [1, 247, 17, 128] }[random.below(4) as usize];
+    let good = [1, 247, 17, 128][random.below(4) as usize];
+    let unit = match random.below(16) {
+        0 => [0, 248, 249, 255][random.below(4) as usize],
+        1 => wide(random, good, 8),
+        _ => good,
+    };
     List::fresh(random, tally, length, unit)
 }
 

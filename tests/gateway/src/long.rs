@@ -45,17 +45,22 @@ fn definitions(random: &mut Random, archive: usize) -> Vec<Call> {
     calls
 }
 
+/// A slot on a point, of any type and transducer.
+fn alarm(random: &mut Random, slot: u32, point: u16) -> Call {
+    Call::Alarm { slot, point: point.into(), kind: random.below(4) as u32, transducer: float_or_none(random).into() }
+}
+
 /// Triggers and alarm slots on a handful of points, so that several share one.
 fn settings(random: &mut Random) -> Vec<Call> {
     let points: [u16; 6] = std::array::from_fn(|_| boolean_or_none(random));
     let one_of = |random: &mut Random| points[random.below(6) as usize];
     let mut calls = Vec::new();
     for file in 1..=USER_FILES as u32 {
-        calls.push(Call::Trigger { file, point: one_of(random) });
+        calls.push(Call::Trigger { file, point: one_of(random).into() });
     }
     for slot in 1..=SLOTS as u32 {
         let point = if random.chance(3) { boolean_or_none(random) } else { one_of(random) };
-        calls.push(Call::Alarm { slot, point, kind: random.below(4) as u8, transducer: float_or_none(random) });
+        calls.push(alarm(random, slot, point));
     }
     calls
 }
@@ -72,13 +77,13 @@ fn new_layout(random: &mut Random, archive: usize) -> Vec<Call> {
 /// A file's trigger moved to another file's, or to any Boolean.
 fn moved_trigger(random: &mut Random, s: &State) -> Call {
     let file = 1 + random.below(10) as u32;
-    let point = if random.chance(2) { s.triggers[random.below(10) as usize] } else { boolean_or_none(random) };
-    Call::Trigger { file, point }
+    let point = if random.chance(2) { s.settings.triggers[random.below(10) as usize] } else { boolean_or_none(random) };
+    Call::Trigger { file, point: point.into() }
 }
 
 fn changed_slot(random: &mut Random) -> Call {
-    let slot = 1 + random.below(32) as u32;
-    Call::Alarm { slot, point: boolean_or_none(random), kind: random.below(4) as u8, transducer: float_or_none(random) }
+    let (slot, point) = (1 + random.below(32) as u32, boolean_or_none(random));
+    alarm(random, slot, point)
 }
 
 /// Mostly a scan. A gateway that was stopped is started again after about ten.
@@ -87,7 +92,7 @@ fn next_call(random: &mut Random, s: &State) -> Call {
         0 => moved_trigger(random, s),
         1 => changed_slot(random),
         2 => Call::Stop,
-        3..=6 if !s.running => Call::Start,
+        3..=6 if !s.flags.running => Call::Start,
         _ => Call::scan(random, s),
     }
 }
@@ -96,7 +101,7 @@ fn next_call(random: &mut Random, s: &State) -> Call {
 fn small_standing(random: &mut Random) -> State {
     loop {
         let state = standing(random);
-        if u64::from(state.site.archive) <= LEAST_ARCHIVE as u64 + MOST_FOR_FILES {
+        if u64::from(state.site.archive_length) <= LEAST_ARCHIVE as u64 + MOST_FOR_FILES {
             return state;
         }
     }
@@ -109,12 +114,12 @@ pub fn long_run(random: &mut Random, tally: &mut Tally) -> Result<(), String> {
         (List::standing(random, state), Vec::new())
     } else {
         let archive = LEAST_ARCHIVE + random.below(MOST_FOR_FILES + 1) as usize;
-        let unit = 1 + random.below(247) as u8;
+        let unit = 1 + random.below(247) as u32;
         (List::fresh(random, tally, archive, unit)?, new_layout(random, archive))
     };
     for number in 1..=CALLS {
         if random.chance(CALLS_A_LAYOUT) {
-            ahead = new_layout(random, list.state.site.archive as usize);
+            ahead = new_layout(random, list.state.site.archive_length as usize);
         }
         for call in ahead.drain(..) {
             list.call(random, tally, &call, NEVER).map_err(|text| format!("laying out before call {number}: {text}"))?;

@@ -18,30 +18,15 @@ mod tally;
 use std::process::exit;
 
 use reader::random::Random;
+use reader::seeds::{argument, spread, SEED};
 
 use lists::short_list;
 use long::long_run;
 use tally::Tally;
 
-const SEED: u64 = 20261115;
 const LISTS: u64 = 3_000;
 const RUNS: u64 = 24;
-
-/// Neighbouring seeds make lists that have nothing in common.
-fn spread(seed: u64) -> u64 {
-    let a = seed.wrapping_add(0x9E37_79B9_7F4A_7C15).wrapping_mul(0xBF58_476D_1CE4_E5B9);
-    (a ^ (a >> 31)).wrapping_mul(0x94D0_49BB_1331_11EB) << 1
-}
-
-fn argument(place: usize, default: u64) -> u64 {
-    match std::env::args().nth(place) {
-        None => default,
-        Some(text) => text.parse().unwrap_or_else(|_| {
-            eprintln!("usage: gateway [SEED [LISTS [RUNS]]]");
-            exit(2)
-        }),
-    }
-}
+const USAGE: &str = "gateway [SEED [LISTS [RUNS]]]";
 
 /// Goes through a list; a difference ends the program.
 fn try_list(seed: u64, tally: &mut Tally, list: fn(&mut Random, &mut Tally) -> Result<(), String>, repeat: &str) {
@@ -52,7 +37,7 @@ fn try_list(seed: u64, tally: &mut Tally, list: fn(&mut Random, &mut Tally) -> R
 }
 
 fn main() {
-    let (seed, lists, runs) = (argument(1, SEED), argument(2, LISTS), argument(3, RUNS));
+    let (seed, lists, runs) = (argument(1, SEED, USAGE), argument(2, LISTS, USAGE), argument(3, RUNS, USAGE));
     println!("seed {seed}, {lists} lists of {} calls and {runs} of {}", lists::CALLS, long::CALLS);
     let mut tally = Tally::default();
     for list in 0..lists {

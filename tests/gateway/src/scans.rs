@@ -34,7 +34,7 @@ pub fn bit(point: u16) -> u128 {
 
 /// The points that triggers and alarm slots name. A damaged state may name what is no Boolean; that adds nothing.
 fn named(s: &State) -> u128 {
-    let points = s.triggers.iter().copied().chain(s.slots.iter().map(|slot| slot.point));
+    let points = s.settings.triggers.iter().copied().chain(s.settings.slots.iter().map(|slot| slot.point));
     points.filter(|point| (1801..=1928).contains(point)).fold(0, |word, point| word | bit(point))
 }
 
@@ -44,7 +44,7 @@ fn any_booleans(random: &mut Random) -> u128 {
 
 /// The Booleans of the next scan: no change, any, all that is named on or off, one changed, or some of what is named changed.
 fn next_booleans(random: &mut Random, s: &State) -> u128 {
-    let (before, named) = (booleans(&s.booleans), named(s));
+    let (before, named) = (booleans(&s.seen.booleans), named(s));
     match random.below(10) {
         0 => before,
         1 => any_booleans(random),

@@ -38,18 +38,18 @@ impl History {
     /// Takes note of an accepted call.
     pub fn note(&mut self, before: &State, call: &Call, captured: &Captured) {
         match call {
-            Call::Start if before.pending => {
+            Call::Start if before.flags.pending => {
                 *self = History { stamp: self.stamp, raised_while_stopped: self.raised_while_stopped, ..History::default() }
             }
-            Call::Start => self.restarted |= !before.running,
+            Call::Start => self.restarted |= !before.flags.running,
             Call::Trigger { file, point } => {
                 let file = *file as usize - 1;
-                self.moved[file] |= before.running && *point != before.triggers[file];
+                self.moved[file] |= before.flags.running && *point != u32::from(before.settings.triggers[file]);
             }
             Call::Scan { table, stamp } => {
                 let now = booleans(&table.0);
-                let raised = if before.scanned { now & !booleans(&before.booleans) } else { 0 };
-                self.raised_while_stopped = if before.running { 0 } else { (self.raised_while_stopped | raised) & now };
+                let raised = if before.seen.scanned { now & !booleans(&before.seen.booleans) } else { 0 };
+                self.raised_while_stopped = if before.flags.running { 0 } else { (self.raised_while_stopped | raised) & now };
                 self.stamp = Some(*stamp);
                 for (file, rounds) in self.rounds.iter_mut().enumerate() {
                     *rounds += usize::from(goes_round(before, captured, file));
@@ -67,8 +67,8 @@ impl History {
 
 /// Whether a file of at least two records is captured past its last one.
 fn goes_round(before: &State, captured: &Captured, file: usize) -> bool {
-    let n = if file == ALARMS { ALARM_RECORDS } else { before.layout.limits[file] };
-    n > 1 && usize::from(before.pointers[file]) + captured[file] > usize::from(n)
+    let n = if file == ALARMS { ALARM_RECORDS } else { before.files.layout.limits[file] };
+    n > 1 && usize::from(before.files.pointers[file]) + captured[file] > usize::from(n)
 }
 
 /// An accepted scan: the state that it was given, its Booleans and stamp, and what the model captured.
@@ -95,19 +95,19 @@ impl<'a> Sight<'a> {
     }
 
     fn since_the_last_scan(&self, changes: fn(u128, u128) -> u128) -> u128 {
-        if self.before.scanned {
-            changes(booleans(&self.before.booleans), self.now)
+        if self.before.seen.scanned {
+            changes(booleans(&self.before.seen.booleans), self.now)
         } else {
             0
         }
     }
 
     fn n(&self, file: usize) -> u16 {
-        self.before.layout.limits[file]
+        self.before.files.layout.limits[file]
     }
 
     fn pointer(&self, file: usize) -> u16 {
-        self.before.pointers[file]
+        self.before.files.pointers[file]
     }
 
     fn goes_round(&self, file: usize) -> bool {
@@ -115,7 +115,7 @@ impl<'a> Sight<'a> {
     }
 
     fn is_bare(&self, file: usize) -> bool {
-        self.before.layout.groups[32 * file..32 * file + 32] == [0; 32]
+        self.before.files.layout.groups[32 * file..32 * file + 32] == [0; 32]
     }
 
     fn clock_went_back(&self) -> bool {
@@ -134,27 +134,29 @@ impl<'a> Sight<'a> {
 
     /// The largest number of files that one trigger captured.
     fn most_on_one_trigger(&self) -> usize {
-        let triggers = self.before.triggers;
+        let triggers = self.before.settings.triggers;
         (0..USER_FILES).map(|file| self.files_where(|other| triggers[other] == triggers[file])).max().unwrap_or(0)
     }
 
     /// How many files have a trigger among these points, of those that are idle or of the others.
     fn triggers_on(&self, points: u128, idle: bool) -> usize {
-        (0..USER_FILES).filter(|&file| bit(self.before.triggers[file]) & points != 0 && (self.n(file) == 0) == idle).count()
+        (0..USER_FILES)
+            .filter(|&file| bit(self.before.settings.triggers[file]) & points != 0 && (self.n(file) == 0) == idle)
+            .count()
     }
 
     /// The points of the slots of these types that are among these points, in the order of slots.
-    fn slots_on(&self, points: u128, types: &[u8]) -> Vec<u16> {
+    fn slots_on(&self, points: u128, types: &[u16]) -> Vec<u16> {
         let is_such = |slot: &&Slot| bit(slot.point) & points != 0 && types.contains(&slot.kind);
-        self.before.slots.iter().filter(is_such).map(|slot| slot.point).collect()
+        self.before.settings.slots.iter().filter(is_such).map(|slot| slot.point).collect()
     }
 
     fn while_running(&self, count: usize) -> usize {
-        count * usize::from(self.before.running)
+        count * usize::from(self.before.flags.running)
     }
 
     fn while_stopped(&self, count: usize) -> usize {
-        count * usize::from(!self.before.running)
+        count * usize::from(!self.before.flags.running)
     }
 }
 
@@ -163,7 +165,7 @@ fn has_twins(mut points: Vec<u16>) -> bool {
     points.windows(2).any(|pair| pair[0] == pair[1])
 }
 
-const ALL_TYPES: [u8; 4] = [0, 1, 2, 3];
+const ALL_TYPES: [u16; 4] = [0, 1, 2, 3];
 
 /// A name, and how often one scan shows it.
 type Shown = (&'static str, fn(&Sight) -> usize);
@@ -171,8 +173,8 @@ type Shown = (&'static str, fn(&Sight) -> usize);
 /// Everything that a whole run must have seen.
 pub const SIGHTS: [Shown; 31] = [
     ("records captured", |s| s.files()),
-    ("records captured day first", |s| s.files_where(|_| s.before.site.dayfirst)),
-    ("records captured month first", |s| s.files_where(|_| !s.before.site.dayfirst)),
+    ("records captured day first", |s| s.files_where(|_| s.before.site.day_first)),
+    ("records captured month first", |s| s.files_where(|_| !s.before.site.day_first)),
     ("bare stamps captured", |s| s.files_where(|file| s.is_bare(file))),
     ("files that went round", |s| s.files_where(|file| s.goes_round(file))),
     ("files that went round after ten rounds", |s| s.files_where(|file| s.goes_round(file) && s.history.rounds[file] >= 10)),
@@ -185,11 +187,15 @@ pub const SIGHTS: [Shown; 31] = [
     ("records captured after a stop and a start", |s| s.files_where(|_| s.history.restarted)),
     ("records captured over bytes at pointer 0", |s| s.files_where(|file| s.history.stands && s.pointer(file) == 0)),
     ("records captured over bytes at another pointer", |s| s.files_where(|file| s.history.stands && s.pointer(file) > 0)),
-    ("records captured by a layout that is not the draft", |s| s.files_where(|_| s.before.layout != s.before.draft)),
+    ("records captured by a layout that is not the draft", |s| {
+        s.files_where(|_| s.before.files.layout != s.before.settings.draft)
+    }),
     ("rises of an idle file's trigger", |s| s.while_running(s.triggers_on(s.rises(), true))),
-    ("scans while running with no change", |s| s.while_running(usize::from(s.before.scanned && s.rises() | s.falls() == 0))),
+    ("scans while running with no change", |s| {
+        s.while_running(usize::from(s.before.seen.scanned && s.rises() | s.falls() == 0))
+    }),
     ("triggers on in a first scan while running", |s| {
-        s.while_running(usize::from(!s.before.scanned) * s.triggers_on(s.now, false))
+        s.while_running(usize::from(!s.before.seen.scanned) * s.triggers_on(s.now, false))
     }),
     ("rises of a trigger while stopped", |s| s.while_stopped(s.triggers_on(s.rises(), false))),
     ("triggers raised while stopped and on after the start", |s| {

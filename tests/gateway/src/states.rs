@@ -5,69 +5,62 @@ use model::layout::{layout_bytes, most_records, record_bytes, Definition, Defini
 use model::points::{groups_from_first_place, judge_definition};
 use reader::random::{groups, Random};
 
-use crate::ffi::{Files, Site, Slot, State};
+use crate::ffi::{self, Files, Flags, Line, Seen, Settings, Site, Slot, State};
+
+const IDLE: ffi::Definitions = ffi::Definitions { groups: [0; 320], limits: [0; 10] };
 
 /// The state of zeros that a refused Fresh hands back.
 pub const ZEROS: State = State {
-    site: Site { archive: 0, unit: 0, dayfirst: false },
-    running: false,
-    unlocked: false,
-    pending: false,
-    scanned: false,
-    draft: Files { groups: [0; 320], limits: [0; 10] },
-    layout: Files { groups: [0; 320], limits: [0; 10] },
-    triggers: [0; 10],
-    slots: [Slot { point: 0, transducer: 0, kind: 0 }; 32],
-    booleans: [0; 16],
-    pointers: [0; 11],
-    requested: [0; 11],
+    site: Site { archive_length: 0, unit: 0, day_first: false, reserved: 0 },
+    flags: Flags { running: false, unlocked: false, pending: false },
+    seen: Seen { scanned: false, booleans: [0; 16] },
+    settings: Settings { draft: IDLE, triggers: [0; 10], slots: [Slot { point: 0, transducer: 0, kind: 0 }; 32] },
+    files: Files { layout: IDLE, pointers: [0; 11] },
+    line: Line { requested: [0; 11] },
 };
 
 pub fn raw_of(s: &State) -> RawState {
     RawState {
-        day_first: s.site.dayfirst,
+        day_first: s.site.day_first,
         unit: s.site.unit,
-        archive_len: s.site.archive,
-        running: s.running,
-        unlocked: s.unlocked,
-        pending: s.pending,
-        draft_groups: s.draft.groups,
-        draft_n: s.draft.limits,
-        groups: s.layout.groups,
-        n: s.layout.limits,
-        triggers: s.triggers,
-        slot_point: s.slots.map(|slot| slot.point),
-        slot_kind: s.slots.map(|slot| slot.kind),
-        slot_float: s.slots.map(|slot| slot.transducer),
-        pointers: s.pointers,
-        requested: s.requested,
+        archive_len: s.site.archive_length,
+        running: s.flags.running,
+        unlocked: s.flags.unlocked,
+        pending: s.flags.pending,
+        draft_groups: s.settings.draft.groups,
+        draft_n: s.settings.draft.limits,
+        groups: s.files.layout.groups,
+        n: s.files.layout.limits,
+        triggers: s.settings.triggers,
+        slot_point: s.settings.slots.map(|slot| slot.point),
+        slot_kind: s.settings.slots.map(|slot| slot.kind),
+        slot_float: s.settings.slots.map(|slot| slot.transducer),
+        pointers: s.files.pointers,
+        requested: s.line.requested,
     }
 }
 
 /// The Booleans of the latest accepted scan, if any.
 pub fn remembered_of(s: &State) -> Option<[u8; 16]> {
-    s.scanned.then_some(s.booleans)
+    s.seen.scanned.then_some(s.seen.booleans)
 }
 
-/// The plain fields as the library's state. The bytes of `booleans` mean nothing before a scan and stay as given.
+/// The plain fields as the library's state. What means nothing stays as given: `reserved`, and the bytes of `booleans` before a scan.
 pub fn state_of(raw: &RawState, remembered: Option<[u8; 16]>, given: &State) -> State {
-    let mut slots = ZEROS.slots;
+    let mut slots = ZEROS.settings.slots;
     for (i, slot) in slots.iter_mut().enumerate() {
         *slot = Slot { point: raw.slot_point[i], transducer: raw.slot_float[i], kind: raw.slot_kind[i] };
     }
+    let reserved = given.site.reserved;
+    let draft = ffi::Definitions { groups: raw.draft_groups, limits: raw.draft_n };
+    let layout = ffi::Definitions { groups: raw.groups, limits: raw.n };
     State {
-        site: Site { archive: raw.archive_len, unit: raw.unit, dayfirst: raw.day_first },
-        running: raw.running,
-        unlocked: raw.unlocked,
-        pending: raw.pending,
-        scanned: remembered.is_some(),
-        draft: Files { groups: raw.draft_groups, limits: raw.draft_n },
-        layout: Files { groups: raw.groups, limits: raw.n },
-        triggers: raw.triggers,
-        slots,
-        booleans: remembered.unwrap_or(given.booleans),
-        pointers: raw.pointers,
-        requested: raw.requested,
+        site: Site { archive_length: raw.archive_len, unit: raw.unit, day_first: raw.day_first, reserved },
+        flags: Flags { running: raw.running, unlocked: raw.unlocked, pending: raw.pending },
+        seen: Seen { scanned: remembered.is_some(), booleans: remembered.unwrap_or(given.seen.booleans) },
+        settings: Settings { draft, triggers: raw.triggers, slots },
+        files: Files { layout, pointers: raw.pointers },
+        line: Line { requested: raw.requested },
     }
 }
 
@@ -82,28 +75,25 @@ pub fn differences(wanted: &State, got: &State) -> String {
         };
     }
     field!(site);
-    field!(running);
-    field!(unlocked);
-    field!(pending);
-    field!(scanned);
-    field!(draft.groups);
-    field!(draft.limits);
-    field!(layout.groups);
-    field!(layout.limits);
-    field!(triggers);
-    field!(slots);
-    field!(booleans);
-    field!(pointers);
-    field!(requested);
+    field!(flags);
+    field!(seen);
+    field!(settings.draft.groups);
+    field!(settings.draft.limits);
+    field!(settings.triggers);
+    field!(settings.slots);
+    field!(files.layout.groups);
+    field!(files.layout.limits);
+    field!(files.pointers);
+    field!(line);
     text
 }
 
 /// The draft, or the layout, as ten definitions.
-pub fn definitions_of(files: &Files) -> Definitions {
+pub fn definitions_of(files: &ffi::Definitions) -> Definitions {
     definitions(&files.groups, &files.limits)
 }
 
-fn set_groups(files: &mut Files, file: usize, numbers: &[u16; 32]) {
+fn set_groups(files: &mut ffi::Definitions, file: usize, numbers: &[u16; 32]) {
     files.groups[32 * file..32 * file + 32].copy_from_slice(numbers);
 }
 
@@ -117,22 +107,22 @@ pub fn archive_length(random: &mut Random) -> usize {
     }
 }
 
-pub fn boolean_or_none(random: &mut Random) -> u16 {
+/// 0, or a point of the 128 from `first` on; often one of the ends.
+fn one_of_128_or_none(random: &mut Random, first: u16) -> u16 {
     match random.below(6) {
         0 => 0,
-        1 => 1801,
-        2 => 1928,
-        _ => 1801 + random.below(128) as u16,
+        1 => first,
+        2 => first + 127,
+        _ => first + random.below(128) as u16,
     }
 }
 
+pub fn boolean_or_none(random: &mut Random) -> u16 {
+    one_of_128_or_none(random, 1801)
+}
+
 pub fn float_or_none(random: &mut Random) -> u16 {
-    match random.below(6) {
-        0 => 0,
-        1 => 7101,
-        2 => 7228,
-        _ => 7101 + random.below(128) as u16,
-    }
+    one_of_128_or_none(random, 7101)
 }
 
 /// A point that is in another row, or in none; often one past an end.
@@ -234,52 +224,53 @@ pub fn limit_near(random: &mut Random, files: &Definitions, file: usize, numbers
 
 /// A file laid out where there is room, drafted, and given a trigger.
 fn any_file(random: &mut Random, s: &mut State, file: usize) {
-    let archive = s.site.archive as usize;
+    let archive = s.site.archive_length as usize;
     if random.chance(2) {
         let numbers = good_groups(random);
-        set_groups(&mut s.layout, file, &numbers);
-        let laid_out = definitions_of(&s.layout);
-        s.layout.limits[file] = limit_near(random, &laid_out, file, &numbers, archive);
-        if layout_bytes(&definitions_of(&s.layout)) > archive as u64 {
-            s.layout.limits[file] = 0;
+        set_groups(&mut s.files.layout, file, &numbers);
+        let laid_out = definitions_of(&s.files.layout);
+        s.files.layout.limits[file] = limit_near(random, &laid_out, file, &numbers, archive);
+        if layout_bytes(&definitions_of(&s.files.layout)) > archive as u64 {
+            s.files.layout.limits[file] = 0;
         }
     }
     if random.chance(3) {
-        set_groups(&mut s.draft, file, &good_groups(random));
-        s.draft.limits[file] = if random.chance(8) { random.next() as u16 } else { random.below(3) as u16 };
+        set_groups(&mut s.settings.draft, file, &good_groups(random));
+        s.settings.draft.limits[file] = if random.chance(8) { random.next() as u16 } else { random.below(3) as u16 };
     }
-    s.triggers[file] = boolean_or_none(random);
+    s.settings.triggers[file] = boolean_or_none(random);
 }
 
 /// A state that is not Foreign, though no list of calls may leave it: every field as free as row 2 lets it be.
 pub fn standing(random: &mut Random) -> State {
     let archive = archive_length(random);
     let mut s = ZEROS;
-    s.site = Site { archive: archive as u32, unit: 1 + random.below(247) as u8, dayfirst: random.chance(2) };
+    let (unit, reserved) = (1 + random.below(247) as u8, random.next() as u16);
+    s.site = Site { archive_length: archive as u32, unit, day_first: random.chance(2), reserved };
     match random.below(3) {
-        0 => s.running = true,
-        1 => s.unlocked = true,
+        0 => s.flags.running = true,
+        1 => s.flags.unlocked = true,
         _ => {}
     }
-    s.pending = random.chance(2);
-    s.scanned = random.chance(2);
-    s.booleans.copy_from_slice(&random.bytes(16));
+    s.flags.pending = random.chance(2);
+    s.seen.scanned = random.chance(2);
+    s.seen.booleans.copy_from_slice(&random.bytes(16));
     for file in 0..USER_FILES {
         any_file(random, &mut s, file);
     }
     if random.chance(3) {
-        s.draft = s.layout;
+        s.settings.draft = s.files.layout;
     }
-    for slot in &mut s.slots {
-        *slot = Slot { point: boolean_or_none(random), transducer: float_or_none(random), kind: random.below(4) as u8 };
+    for slot in &mut s.settings.slots {
+        *slot = Slot { point: boolean_or_none(random), transducer: float_or_none(random), kind: random.below(4) as u16 };
     }
-    let laid_out = definitions_of(&s.layout);
+    let laid_out = definitions_of(&s.files.layout);
     for file in 0..11 {
         let n = u64::from(most_records(&laid_out, file + 1));
-        s.pointers[file] = if random.chance(4) { n as u16 } else { random.below(n + 1) as u16 };
-        s.requested[file] = if random.chance(4) { n as u16 } else { random.below(n + 1) as u16 };
+        s.files.pointers[file] = if random.chance(4) { n as u16 } else { random.below(n + 1) as u16 };
+        s.line.requested[file] = if random.chance(4) { n as u16 } else { random.below(n + 1) as u16 };
     }
-    if random.chance(60) {
+    if random.chance(30) {
         deepen(random, &mut s);
     }
     s
@@ -288,14 +279,14 @@ pub fn standing(random: &mut Random) -> State {
 /// One file of as many records as there can be, about to go round; the others idle.
 fn deepen(random: &mut Random, s: &mut State) {
     let file = random.below(10) as usize;
-    s.layout = ZEROS.layout;
-    s.layout.limits[file] = 65_535;
-    s.site.archive = layout_bytes(&definitions_of(&s.layout)) as u32 + random.below(20) as u32;
-    s.pointers[..USER_FILES].fill(0);
-    s.requested[..USER_FILES].fill(0);
-    s.pointers[file] = 65_535 - random.below(3) as u16;
-    s.triggers[file] = 1801 + random.below(128) as u16;
-    (s.running, s.unlocked, s.pending, s.scanned) = (true, false, false, true);
+    s.files.layout = ZEROS.files.layout;
+    s.files.layout.limits[file] = 65_535;
+    s.site.archive_length = layout_bytes(&definitions_of(&s.files.layout)) as u32 + random.below(20) as u32;
+    s.files.pointers[..USER_FILES].fill(0);
+    s.line.requested[..USER_FILES].fill(0);
+    s.files.pointers[file] = 65_535 - random.below(3) as u16;
+    s.settings.triggers[file] = 1801 + random.below(128) as u16;
+    (s.flags.running, s.flags.unlocked, s.flags.pending, s.seen.scanned) = (true, false, false, true);
 }
 
 /// The clauses of Foreign, each with a name for the tally.
@@ -321,21 +312,21 @@ pub const CLAUSES: [&str; 15] = [
 pub fn damage(random: &mut Random, s: &mut State, clause: usize) {
     let file = random.below(10) as usize;
     let slot = random.below(32) as usize;
-    let n = |s: &State, file: usize| most_records(&definitions_of(&s.layout), file + 1);
+    let n = |s: &State, file: usize| most_records(&definitions_of(&s.files.layout), file + 1);
     match clause {
-        0 => (s.running, s.unlocked) = (true, true),
-        1 => set_groups(&mut s.draft, file, &with_a_bad_group(random)),
-        2 => set_groups(&mut s.draft, file, &too_long(random)),
-        3 => set_groups(&mut s.layout, file, &with_a_bad_group(random)),
-        4 => set_groups(&mut s.layout, file, &too_long(random)),
-        5 => s.triggers[file] = no_boolean(random),
-        6 => s.slots[slot].point = no_boolean(random),
-        7 => s.slots[slot].kind = [4, 5, 128, 255][random.below(4) as usize],
-        8 => s.slots[slot].transducer = no_float(random),
-        9 => s.layout.limits[file] = s.layout.limits[file].max(65_535 - random.below(3) as u16),
+        0 => (s.flags.running, s.flags.unlocked) = (true, true),
+        1 => set_groups(&mut s.settings.draft, file, &with_a_bad_group(random)),
+        2 => set_groups(&mut s.settings.draft, file, &too_long(random)),
+        3 => set_groups(&mut s.files.layout, file, &with_a_bad_group(random)),
+        4 => set_groups(&mut s.files.layout, file, &too_long(random)),
+        5 => s.settings.triggers[file] = no_boolean(random),
+        6 => s.settings.slots[slot].point = no_boolean(random),
+        7 => s.settings.slots[slot].kind = [4, 5, 255, 256, 259, 65_535][random.below(6) as usize],
+        8 => s.settings.slots[slot].transducer = no_float(random),
+        9 => s.files.layout.limits[file] = s.files.layout.limits[file].max(65_535 - random.below(3) as u16),
         10 => {
-            let bytes = layout_bytes(&definitions_of(&s.layout)) as u32;
-            s.site.archive = match random.below(4) {
+            let bytes = layout_bytes(&definitions_of(&s.files.layout)) as u32;
+            s.site.archive_length = match random.below(4) {
                 0 => bytes,
                 1 => random.below(u64::from(bytes)) as u32,
                 _ => bytes - 1,
@@ -344,15 +335,15 @@ pub fn damage(random: &mut Random, s: &mut State, clause: usize) {
         11 | 12 => {
             let file = if random.chance(4) { 10 } else { file };
             let over = n(s, file).saturating_add(1 + if random.chance(3) { random.below(65_535) as u16 } else { 0 });
-            let numbers = if clause == 11 { &mut s.pointers } else { &mut s.requested };
+            let numbers = if clause == 11 { &mut s.files.pointers } else { &mut s.line.requested };
             numbers[file] = over;
         }
         13 => s.site.unit = [0, 248, 249, 255, 247, 1][random.below(6) as usize],
         _ => {
-            let laid_out = definitions_of(&s.layout);
-            let left = u64::from(s.site.archive).saturating_sub(layout_bytes(&laid_out));
+            let laid_out = definitions_of(&s.files.layout);
+            let left = u64::from(s.site.archive_length).saturating_sub(layout_bytes(&laid_out));
             let more = left / record_bytes(&laid_out, file + 1).max(6) as u64 + u64::from(!random.chance(5));
-            s.layout.limits[file] = (u64::from(s.layout.limits[file]) + more).min(65_535) as u16;
+            s.files.layout.limits[file] = (u64::from(s.files.layout.limits[file]) + more).min(65_535) as u16;
         }
     }
 }

@@ -3,7 +3,7 @@
 use gateway::states::CLAUSES;
 use model::card::{FOREIGN, MEMORY, TABLE};
 
-use crate::calls::{Call, NAMES};
+use crate::calls::{Call, NAMES, WIDE};
 use crate::compare::Wanted;
 use crate::sights::{Sight, SIGHTS};
 
@@ -36,6 +36,8 @@ pub struct Tally {
     /// Scans with a table of another length and a stamp out of range.
     table_and_clock: u32,
     zeroed: u32,
+    /// How often each argument of WIDE alone was what a call was refused for.
+    pub wide: [u32; WIDE.len()],
     sights: [usize; SIGHTS.len()],
     /// How often the file that went round most in one list did so.
     pub most_rounds: usize,
@@ -45,6 +47,9 @@ impl Tally {
     pub fn count(&mut self, call: &Call, wanted: &Wanted, lent: &[u8]) {
         let number = wanted.told.number;
         self.answers[call.kind()][number as usize] += 1;
+        if let Some(argument) = call.wide_argument().filter(|_| number > FOREIGN) {
+            self.wide[argument] += 1;
+        }
         match call {
             Call::Start => self.zeroed += u32::from(wanted.archive != lent),
             Call::Scan { stamp, .. } => self.table_and_clock += u32::from(number == TABLE && !stamp.in_range()),
@@ -74,6 +79,8 @@ impl Tally {
         }
         let clauses = CLAUSES.iter().zip(&self.clauses).filter(|(_, seen)| seen[0] < 100);
         seldom.extend(clauses.map(|(name, _)| format!("Foreign by {name}")));
+        let cut = WIDE.iter().zip(&self.wide).filter(|(_, &seen)| seen < 20);
+        seldom.extend(cut.map(|(name, _)| format!("refused for a {name} that would be taken if it were cut")));
         let counted = [
             ("Foreign with another length", self.foreign_and_memory),
             ("Foreign with a bad argument", self.foreign_and_bad),
@@ -97,6 +104,9 @@ impl Tally {
         }
         for (name, seen) in CLAUSES.iter().zip(&self.clauses) {
             println!("{name}: Foreign {}, not {}", seen[0], seen[1]);
+        }
+        for (name, seen) in WIDE.iter().zip(&self.wide) {
+            println!("refused for a {name} that would be taken if it were cut: {seen}");
         }
         println!("Foreign with another length {}, with a bad argument {}", self.foreign_and_memory, self.foreign_and_bad);
         println!("Table with a stamp out of range {}; Starts that zeroed bytes {}", self.table_and_clock, self.zeroed);

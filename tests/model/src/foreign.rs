@@ -22,20 +22,20 @@ pub struct RawState {
     pub n: [u16; USER_FILES],
     pub triggers: [u16; USER_FILES],
     pub slot_point: [u16; 32],
-    pub slot_kind: [u8; 32],
+    pub slot_kind: [u16; 32],
     pub slot_float: [u16; 32],
     pub pointers: [u16; ALARM_FILE],
     pub requested: [u16; ALARM_FILE],
 }
 
 /// Our unit is 1-247.
-pub fn unit_is_ours(unit: u8) -> bool {
+pub fn unit_is_ours(unit: u32) -> bool {
     (1..=247).contains(&unit)
 }
 
 /// A slot's entry: a Boolean point or 0, type 0-3, a float point or 0, each
 /// checked even when the slot is off.
-pub fn slot_entry_is_good(point: u16, kind: u16, float: u16) -> bool {
+pub fn slot_entry_is_good(point: u32, kind: u32, float: u32) -> bool {
     is_boolean_or_none(point) && kind <= 3 && is_float_or_none(float)
 }
 
@@ -59,8 +59,9 @@ fn any_definition_is_bad(files: &Definitions) -> bool {
 
 fn any_slot_is_bad(raw: &RawState) -> bool {
     (0..32).any(|i| {
-        let kind = u16::from(raw.slot_kind[i]);
-        !slot_entry_is_good(raw.slot_point[i], kind, raw.slot_float[i])
+        let entry = [raw.slot_point[i], raw.slot_kind[i], raw.slot_float[i]];
+        let [point, kind, float] = entry.map(u32::from);
+        !slot_entry_is_good(point, kind, float)
     })
 }
 
@@ -77,7 +78,10 @@ pub fn foreign(raw: &RawState) -> bool {
     let drafts = definitions(&raw.draft_groups, &raw.draft_n);
     let laid_out = definitions(&raw.groups, &raw.n);
     let both_on = raw.running && raw.unlocked;
-    let bad_trigger = raw.triggers.iter().any(|&point| !is_boolean_or_none(point));
+    let bad_trigger = raw
+        .triggers
+        .iter()
+        .any(|&point| !is_boolean_or_none(point.into()));
     both_on
         || any_definition_is_bad(&drafts)
         || any_definition_is_bad(&laid_out)
@@ -85,7 +89,7 @@ pub fn foreign(raw: &RawState) -> bool {
         || any_slot_is_bad(raw)
         || layout_bytes(&laid_out) > u64::from(raw.archive_len)
         || any_number_is_over_n(raw, &laid_out)
-        || !unit_is_ours(raw.unit)
+        || !unit_is_ours(raw.unit.into())
 }
 
 #[cfg(test)]
@@ -165,6 +169,7 @@ mod tests {
         assert!(!is_foreign_after(|raw| raw.triggers[9] = 1928));
         assert!(is_foreign_after(|raw| raw.slot_point[31] = 3001));
         assert!(is_foreign_after(|raw| raw.slot_kind[31] = 4));
+        assert!(is_foreign_after(|raw| raw.slot_kind[31] = 256));
         assert!(is_foreign_after(|raw| raw.slot_float[31] = 7229));
         assert!(!is_foreign_after(|raw| raw.slot_float[31] = 7228));
     }

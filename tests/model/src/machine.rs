@@ -3,7 +3,8 @@
 //! `src/machine/`.
 //!
 //! Every call is lent archive memory and takes its length, so Memory (1)
-//! applies to each.
+//! applies to each. Numbers that the service card judges may be of any size;
+//! what is taken fits its field.
 
 mod archive;
 mod frame;
@@ -86,14 +87,14 @@ fn is_user_file(file: usize) -> bool {
 impl Machine {
     /// Fresh. A refused Fresh hands back a state of zeros, which refuses
     /// every call.
-    pub fn fresh(archive_len: usize, day_first: bool, unit: u8) -> (Answer, Machine) {
+    pub fn fresh(archive_len: usize, day_first: bool, unit: u32) -> (Answer, Machine) {
         let length_is_good = (LEAST_ARCHIVE..=MOST_ARCHIVE).contains(&archive_len);
         let checked = lowest(&[
             (card::MEMORY, !length_is_good),
             (card::FOREIGN, !unit_is_ours(unit)),
         ]);
         let machine = match checked {
-            Ok(()) => all_off(archive_len, day_first, unit),
+            Ok(()) => all_off(archive_len, day_first, unit as u8),
             Err(_) => all_off(0, false, 0),
         };
         (checked.into(), machine)
@@ -119,7 +120,7 @@ impl Machine {
         machine.triggers = raw.triggers;
         for (i, slot) in machine.slots.iter_mut().enumerate() {
             slot.point = raw.slot_point[i];
-            slot.kind = raw.slot_kind[i];
+            slot.kind = raw.slot_kind[i] as u8;
             slot.float = raw.slot_float[i];
         }
         machine.remembered = remembered;
@@ -213,7 +214,7 @@ impl Machine {
     }
 
     /// Trigger: a Boolean, or 0 for none. Empties nothing.
-    pub fn trigger(&mut self, archive_len: usize, file: usize, point: u16) -> Answer {
+    pub fn trigger(&mut self, archive_len: usize, file: usize, point: u32) -> Answer {
         let checked = lowest(&[
             (card::MEMORY, archive_len != self.archive_len),
             (card::FOREIGN, self.is_foreign()),
@@ -221,7 +222,7 @@ impl Machine {
             (card::TRIGGER, !is_boolean_or_none(point)),
         ]);
         if checked.is_ok() {
-            self.triggers[file - 1] = point;
+            self.triggers[file - 1] = point as u16;
         }
         checked.into()
     }
@@ -231,9 +232,9 @@ impl Machine {
         &mut self,
         archive_len: usize,
         slot: usize,
-        point: u16,
-        kind: u16,
-        float: u16,
+        point: u32,
+        kind: u32,
+        float: u32,
     ) -> Answer {
         let slot_exists = (1..=SLOTS).contains(&slot);
         let good = slot_exists && slot_entry_is_good(point, kind, float);
@@ -243,8 +244,11 @@ impl Machine {
             (card::ALARM, !good),
         ]);
         if checked.is_ok() {
-            let kind = kind as u8;
-            self.slots[slot - 1] = Slot { point, kind, float };
+            self.slots[slot - 1] = Slot {
+                point: point as u16,
+                kind: kind as u8,
+                float: float as u16,
+            };
         }
         checked.into()
     }
@@ -255,7 +259,7 @@ impl Machine {
     /// The machine's own state is valid, but for the state of zeros that a
     /// refused Fresh hands back: its unit is Foreign.
     fn is_foreign(&self) -> bool {
-        !unit_is_ours(self.unit)
+        !unit_is_ours(self.unit.into())
     }
 
     fn lay_out_draft(&mut self) {
@@ -314,7 +318,7 @@ impl Machine {
             n: self.layout.map(|file| file.n),
             triggers: self.triggers,
             slot_point: self.slots.map(|slot| slot.point),
-            slot_kind: self.slots.map(|slot| slot.kind),
+            slot_kind: self.slots.map(|slot| slot.kind.into()),
             slot_float: self.slots.map(|slot| slot.float),
             pointers,
             requested: self.requested,

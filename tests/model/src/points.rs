@@ -73,9 +73,10 @@ pub fn row_of_point(point: u16) -> Option<&'static Row> {
         .find(|row| (row.first..=row.last).contains(&point))
 }
 
-/// Whether a point is in the row of a kind.
-pub fn is_of_kind(point: u16, kind: Kind) -> bool {
-    row_of_point(point).is_some_and(|row| row.kind == kind)
+/// Whether a point is in the row of a kind. A call may be given any number.
+pub fn is_of_kind(point: u32, kind: Kind) -> bool {
+    let row = u16::try_from(point).ok().and_then(row_of_point);
+    row.is_some_and(|row| row.kind == kind)
 }
 
 /// What a first point and a number of points make.
@@ -135,12 +136,12 @@ pub fn judge_definition(groups: &[u16; GROUP_NUMBERS]) -> Result<usize, Refusal>
 }
 
 /// A trigger or an alarm slot's point: 0 or a Boolean.
-pub fn is_boolean_or_none(point: u16) -> bool {
+pub fn is_boolean_or_none(point: u32) -> bool {
     point == 0 || is_of_kind(point, Kind::Boolean)
 }
 
 /// An alarm slot's transducer: 0 or a float.
-pub fn is_float_or_none(point: u16) -> bool {
+pub fn is_float_or_none(point: u32) -> bool {
     point == 0 || is_of_kind(point, Kind::Float)
 }
 
@@ -237,6 +238,14 @@ mod tests {
             assert_eq!(group_of(row.first, all), Group::Good(row));
             assert_eq!(group_of(row.first, all + 1), Group::Bad);
         }
+    }
+
+    #[test]
+    fn a_number_is_judged_whole() {
+        assert!(is_boolean_or_none(1801) && is_float_or_none(7228));
+        assert!(!is_boolean_or_none(65_536) && !is_float_or_none(65_536));
+        assert!(!is_boolean_or_none(65_536 + 1801));
+        assert!(!is_float_or_none(0x7000_0000 + 7101));
     }
 
     #[test]

@@ -33,7 +33,7 @@ fn thirty_two(groups: &[u16]) -> Result<&[u16; GROUP_NUMBERS], Refusal> {
 /// A 03 reply with right CRC, unit 1-247 and that record size.
 fn is_reply_of_size(frame: &[u8], size: usize) -> bool {
     frame.len() == size + BYTES_AROUND
-        && unit_is_ours(frame[0])
+        && unit_is_ours(frame[0].into())
         && frame[1] == 3
         && usize::from(frame[2]) == size
         && crc::checks(frame)

@@ -1,5 +1,5 @@
-//! libreader.a behind safe functions, as include/windrow_reader.h declares it; random definitions and replies; the comparison with
-//! the model's reading end.
+//! libreader.a behind safe functions, as include/windrow_reader.h declares it; random definitions and replies; seeds.
 
 pub mod ffi;
 pub mod random;
+pub mod seeds;

@@ -81,25 +81,3 @@ pub fn reply(unit: u8, record: &[u8]) -> Vec<u8> {
     frame.extend_from_slice(record);
     with_crc(frame)
 }
-
-/// The frame with one of the faults that the card names: length, CRC, unit, function, byte count, stamp, zeros. All but a wrong CRC
-/// or length are given a right CRC again, so that the fault itself is what is refused.
-pub fn damaged(random: &mut Random, frame: &[u8]) -> Vec<u8> {
-    let mut copy = frame.to_vec();
-    let body = copy.len() - 2;
-    match random.below(8) {
-        0 => copy.truncate(random.below(copy.len() as u64 + 1) as usize),
-        1 => copy.extend(random.bytes(1 + frame.len() % 7)),
-        2 => copy[body + (frame.len() & 1)] ^= 1 << random.below(8),
-        3 => copy[0] = [0, 248, 255][random.below(3) as usize],
-        4 => copy[1] = [4, 6, 0x83][random.below(3) as usize],
-        5 => copy[2] = copy[2].wrapping_add(1 + random.below(3) as u8),
-        6 => copy[3 + random.below(6) as usize] = 60 + random.below(196) as u8,
-        _ => copy[3..body].fill(0),
-    }
-    if copy.len() != frame.len() || copy[body..] != frame[body..] {
-        return copy;
-    }
-    copy.truncate(body);
-    with_crc(copy)
-}

@@ -34,7 +34,7 @@ fn table_with(on: &[u16]) -> Vec<u8> {
 }
 
 fn fresh() -> Machine {
-    let (answer, machine) = Machine::fresh(ARCHIVE, false, UNIT);
+    let (answer, machine) = Machine::fresh(ARCHIVE, false, UNIT.into());
     assert!(answer.is_done());
     machine
 }
@@ -52,7 +52,7 @@ fn running_with_file_1(n: u16) -> Machine {
     let mut machine = fresh();
     done(machine.unlock(ARCHIVE));
     done(machine.define(ARCHIVE, 1, &groups_from_first_place(&[(3001, 1)]), n));
-    done(machine.trigger(ARCHIVE, 1, FLAG));
+    done(machine.trigger(ARCHIVE, 1, FLAG.into()));
     done(machine.start(ARCHIVE));
     machine
 }

@@ -37,7 +37,7 @@ fn some_groups(mixer: &mut Mixer) -> [u16; 32] {
 
 fn one_call(machine: &mut Machine, mixer: &mut Mixer) -> Answer {
     let file = mixer.below(12) as usize;
-    let point = 1800 + mixer.below(10) as u16;
+    let point = 1800 + mixer.below(10) as u32;
     match mixer.below(40) {
         0 => machine.unlock(ARCHIVE),
         1 => machine.lock(ARCHIVE),
@@ -45,7 +45,7 @@ fn one_call(machine: &mut Machine, mixer: &mut Mixer) -> Answer {
         3..=5 => machine.start(ARCHIVE + (mixer.below(9) / 8) as usize),
         6..=11 => machine.define(ARCHIVE, file, &some_groups(mixer), mixer.below(40) as u16),
         12..=15 => machine.trigger(ARCHIVE, file, point),
-        16..=19 => machine.alarm(ARCHIVE, 3 * file, point, mixer.below(5) as u16, 0),
+        16..=19 => machine.alarm(ARCHIVE, 3 * file, point, mixer.below(5) as u32, 0),
         20..=34 => {
             let stamp = at_second(mixer.below(63) as u8);
             machine.scan(ARCHIVE, &a_table(mixer), stamp)

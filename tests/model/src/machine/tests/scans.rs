@@ -56,7 +56,7 @@ fn blunder_the_pointer_names_the_newest_record() {
 #[test]
 fn blunder_a_flag_raised_while_stopped_is_not_captured() {
     let mut machine = running_with_file_1(4);
-    done(machine.alarm(ARCHIVE, 1, FLAG, 0, 0));
+    done(machine.alarm(ARCHIVE, 1, FLAG.into(), 0, 0));
     scan(&mut machine, &[], 1);
     done(machine.stop(ARCHIVE));
     scan(&mut machine, &[FLAG], 2);
@@ -97,7 +97,7 @@ fn idle_files_and_files_without_a_trigger_capture_nothing() {
     let mut machine = fresh();
     done(machine.unlock(ARCHIVE));
     done(machine.define(ARCHIVE, 2, &[0; 32], 3));
-    done(machine.trigger(ARCHIVE, 1, FLAG));
+    done(machine.trigger(ARCHIVE, 1, FLAG.into()));
     done(machine.start(ARCHIVE));
     capture(&mut machine, 2);
     assert!((1..=11).all(|file| machine.captures(file).is_empty()));
@@ -109,9 +109,9 @@ fn archive_memory_holds_the_files_in_order() {
     done(machine.unlock(ARCHIVE));
     done(machine.define(ARCHIVE, 1, &groups_from_first_place(&[(3001, 1)]), 2));
     done(machine.define(ARCHIVE, 3, &[0; 32], 3));
-    done(machine.trigger(ARCHIVE, 1, FLAG));
-    done(machine.trigger(ARCHIVE, 3, FLAG));
-    done(machine.alarm(ARCHIVE, 1, FLAG, 1, 0));
+    done(machine.trigger(ARCHIVE, 1, FLAG.into()));
+    done(machine.trigger(ARCHIVE, 3, FLAG.into()));
+    done(machine.alarm(ARCHIVE, 1, FLAG.into(), 1, 0));
     done(machine.start(ARCHIVE));
     capture(&mut machine, 3);
     let memory = machine.archive_memory();
@@ -171,8 +171,8 @@ fn a_clock_may_go_back() {
 
 #[test]
 fn a_day_first_gateway_stamps_day_first() {
-    let mut machine = Machine::fresh(ARCHIVE, true, UNIT).1;
-    done(machine.alarm(ARCHIVE, 1, FLAG, 1, 0));
+    let mut machine = Machine::fresh(ARCHIVE, true, UNIT.into()).1;
+    done(machine.alarm(ARCHIVE, 1, FLAG.into(), 1, 0));
     done(machine.start(ARCHIVE));
     capture(&mut machine, 1);
     assert_eq!(machine.record(11, 1)[..6], [29, 8, 7, 11, 36, 1]);

@@ -42,6 +42,7 @@ fn fresh_judges_length_then_unit() {
     }
     refused(Machine::fresh(11_000, false, 0).0, 2);
     refused(Machine::fresh(11_000, false, 248).0, 2);
+    refused(Machine::fresh(11_000, false, 257).0, 2);
 }
 
 #[test]
@@ -132,12 +133,12 @@ fn triggers() {
     let mut machine = fresh();
     refused(machine.trigger(ARCHIVE, 0, 1), 5);
     refused(machine.trigger(ARCHIVE, 11, 1801), 5);
-    for point in [1, 1800, 1929, 3001] {
+    for point in [1, 1800, 1929, 3001, 65_536, 65_536 + 1801] {
         refused(machine.trigger(ARCHIVE, 10, point), 9);
     }
     for point in [1801, 1928, 0] {
         done(machine.trigger(ARCHIVE, 10, point));
-        assert_eq!(machine.raw_state().triggers[9], point);
+        assert_eq!(u32::from(machine.raw_state().triggers[9]), point);
     }
 }
 
@@ -151,6 +152,9 @@ fn slots_are_checked_even_when_off() {
         (1, 7101, 0, 0),
         (1, 0, 4, 0),
         (1, 0, 256, 0),
+        (1, 0, 65_536, 0),
+        (1, 65_536 + 1801, 0, 0),
+        (1, 0, 0, 65_536 + 7101),
         (1, 0, 0, 7100),
         (1, 0, 0, 1801),
     ];

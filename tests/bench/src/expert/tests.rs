@@ -1,0 +1,74 @@
+//! The yardstick does what the library does, on random states, damaged ones, and random frames.
+
+use ::gateway::ffi::{self, State};
+use ::gateway::states::{damage, standing, CLAUSES};
+use model::record::captured_record;
+use reader::random::{groups, reply, stamp, Random};
+
+use super::{gateway, reader as plain_reader};
+
+const ROUNDS: usize = 2_000;
+
+/// A random state, one in three damaged.
+fn any_state(random: &mut Random) -> State {
+    let mut s = standing(random);
+    if random.chance(3) {
+        let clause = random.below(CLAUSES.len() as u64) as usize;
+        damage(random, &mut s, clause);
+    }
+    s
+}
+
+#[test]
+fn lock_and_scan_are_the_librarys() {
+    let mut random = Random::new(1);
+    let mut seen = [0; 5];
+    for _ in 0..ROUNDS {
+        let s = any_state(&mut random);
+        let length = s.site.archive_length as usize + usize::from(random.chance(20));
+        let mut archive = random.bytes(length);
+        let (mut locked, mut scanned) = (s, s);
+        let number = gateway::lock(&mut locked, &archive);
+        let wanted = ffi::lock(s, &mut archive);
+        assert_eq!((number, locked), (wanted.number, wanted.state));
+
+        let length = if random.chance(20) { 1423 } else { 1424 };
+        let mut table = random.bytes(length);
+        let mut at = stamp(&mut random);
+        at.month += u8::from(random.chance(20)) * 12;
+        let mut other_archive = archive.clone();
+        let number = gateway::scan(&mut scanned, &mut other_archive, &table, &at.into());
+        let wanted = ffi::scan(s, &mut archive, &mut table, at.into());
+        assert_eq!((number, scanned), (wanted.number, wanted.state));
+        assert!(archive == other_archive, "other bytes");
+        seen[number as usize] += 1;
+    }
+    assert!(seen.iter().all(|&n| n > 10), "numbers of scans {seen:?}");
+}
+
+#[test]
+fn a_point_is_the_librarys() {
+    let mut random = Random::new(2);
+    let mut seen = [0; 17];
+    for _ in 0..ROUNDS {
+        let numbers = groups(&mut random);
+        let table = random.bytes(1424);
+        let day_first = random.chance(2);
+        let mut record = captured_record(&numbers, &table, stamp(&mut random), day_first);
+        match random.below(8) {
+            0 => record.fill(0),
+            1 => record[random.below(6) as usize] = random.next() as u8,
+            _ => {}
+        }
+        let mut frame = reply(random.next() as u8, &record);
+        let at = random.below(frame.len() as u64) as usize;
+        frame[at] ^= u8::from(random.chance(8));
+        for _ in 0..20 {
+            let (g, e) = (random.below(18) as u32, random.below(12) as u32);
+            let wanted = reader::ffi::point(&numbers, day_first, &frame, g, e);
+            assert_eq!(plain_reader::point(&numbers, day_first, &frame, g, e), wanted);
+            seen[wanted.number as usize] += 1;
+        }
+    }
+    assert!([0, 7, 8, 14, 15, 16].iter().all(|&number| seen[number] > 10), "numbers of points {seen:?}");
+}

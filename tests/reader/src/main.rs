@@ -1,0 +1,68 @@
+//! Every call of libreader.a against the model's reading end, and every decoded point against the live table, on random definitions,
+//! right replies and faulty ones.
+//!
+//!     reader [SEED [ROUNDS]]
+//!
+//! A round has a right reply, a faulty one and a list of another length. Round i is made from SEED + i, so `reader SEED+i 1` repeats
+//! it alone.
+
+mod compare;
+mod faults;
+mod tally;
+
+use std::process::exit;
+
+use model::points::judge_definition;
+use model::record::captured_record;
+use reader::random::{groups, reply, stamp, Random};
+use reader::seeds::{argument, spread, SEED};
+
+use compare::{agree, read_back, Given};
+use faults::{other_length, FAULTS};
+use tally::Tally;
+
+const ROUNDS: u64 = 20_000;
+const USAGE: &str = "reader [SEED [ROUNDS]]";
+
+/// The right reply, one with a fault, and one with a list of another length.
+fn round(random: &mut Random, tally: &mut Tally) -> Result<(), String> {
+    let numbers = groups(random);
+    let is_good = judge_definition(&numbers).is_ok();
+    let (day_first, table, stamp) = (random.chance(2), random.bytes(1424), stamp(random));
+    let record = if is_good { captured_record(&numbers, &table, stamp, day_first) } else { random.bytes(30) };
+    let frame = reply(1 + random.below(247) as u8, &record);
+    let right = Given { groups: &numbers, day_first, frame: &frame };
+    agree(random, tally, &right).map_err(|text| format!("{text}\n{right:?}"))?;
+    if is_good {
+        read_back(tally, &right, &table, stamp.into()).map_err(|text| format!("{text}\n{right:?}"))?;
+    }
+    let index = random.below(FAULTS.len() as u64) as usize;
+    let faulty = Given { frame: &(FAULTS[index].make)(random, &frame), ..right };
+    let number = agree(random, tally, &faulty).map_err(|text| format!("{}: {text}\n{faulty:?}", FAULTS[index].name))?;
+    tally.faults[index] += u32::from(is_good && number == FAULTS[index].number.into());
+    let listed = Given { groups: &other_length(random, &numbers), ..right };
+    agree(random, tally, &listed).map_err(|text| format!("{text}\n{listed:?}"))?;
+    tally.long_lists += u32::from(is_good && listed.groups.len() > 32);
+    tally.short_lists += u32::from(is_good && listed.groups.len() < 32);
+    Ok(())
+}
+
+fn main() {
+    let (seed, rounds) = (argument(1, SEED, USAGE), argument(2, ROUNDS, USAGE));
+    println!("seed {seed}, {rounds} rounds");
+    let mut tally = Tally::default();
+    for i in 0..rounds {
+        let seed = seed.wrapping_add(i);
+        if let Err(text) = round(&mut Random::new(spread(seed)), &mut tally) {
+            println!("DIFFERENCE in the round of seed {seed}, {text}\nrepeat it with: reader {seed} 1");
+            exit(1);
+        }
+    }
+    tally.print();
+    let seldom = tally.hardly_seen();
+    if rounds >= ROUNDS && !seldom.is_empty() {
+        println!("hardly seen: {}", seldom.join("; "));
+        exit(1);
+    }
+    println!("{} frames agree", 3 * rounds);
+}
