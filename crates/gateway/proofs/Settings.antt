@@ -5,13 +5,13 @@
 --     start-empties, start-keeps    a pending Start that is done leaves memory of zeros and every list empty; any other leaves memory
 --     start-refused, start-length   a refused Start leaves memory, and any Start its length
 --     fresh-made, fresh-refused, fresh-length    Fresh done, refused, and the length of memory after it
-use mathlib.Core.Path.{_≡_, refl, sym, ap}
+use mathlib.Core.Path.{_≡_, refl, sym}
 use mathlib.Core.List.{List}
 use mathlib.Core.Bool.{Bool, true, false, cond, not, _&&_, false≢true}
 use Prim.Native.Nat.{ℕ, _-_}
 use lib.Dec.{eqb}
 use lib.ListN.{length, replicate, length-replicate, set}
-use borrow.Author.Tests.{eqb-true, eqb-false, not-false}
+use borrow.Author.Tests.{eqb-true, not-false}
 use Rattle.points.specs.Table.{booleanOrNone}
 use Rattle.points.specs.Groups.{judgedCard}
 use Rattle.basics.specs.Numbers.{within}

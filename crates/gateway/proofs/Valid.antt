@@ -2,17 +2,17 @@
 --     zeros-within                     numbers that are all 0 are within any limit
 --     unlock-valid, lock-valid, ..     the calls
 --     fresh-valid                      what Fresh leaves
-use mathlib.Core.Path.{_≡_, refl, ap, _∙_}
+use mathlib.Core.Path.{_≡_, refl, ap}
 use mathlib.Core.List.{List}
 use mathlib.Core.Bool.{Bool, true, false, not, _&&_}
-use Prim.Native.Nat.{ℕ, _-_, _*_, _≤_}
+use Prim.Native.Nat.{ℕ, _-_, _≤_}
 use native.Mathlib.Omega.{arith}
 use borrow.Author.Tests.{le-leb}
 use lib.ListN.{getD, set, replicate, getD-replicate}
 use Rattle.points.specs.Table.{booleanOrNone, floatOrNone}
 use Rattle.points.specs.Groups.{judgedCard, judged, firstBad, recordSize, groupsSize, groupOf, unused}
 use Rattle.archive.specs.declared.alarms.Slot.{Slot}
-use Rattle.archive.specs.Layout.{Layout, every, isGood, goodFiles, allFiles, alarmDepth, alarmSize, idleFiles, redefined, layoutOf, limitOf, sizeOf, baseOf, layoutSize, hasRoom}
+use Rattle.archive.specs.Layout.{Layout, every, isGood, goodFiles, allFiles, alarmDepth, idleFiles, redefined, layoutOf, limitOf, sizeOf, baseOf, layoutSize, hasRoom}
 use Rattle.archive.specs.Alarms.{offSlot, slotCount, goodSlot, goodSlotAt, goodSlots}
 use Rattle.archive.proofs.Layouts.{every-at, every-all, set-holds}
 use Rattle.state.specs.declared.parts.State.{State}

@@ -12,7 +12,6 @@ use Rattle.archive.specs.Alarms.{offSlot, slotCount}
 use Rattle.points.specs.Table.{booleanBytes}
 use Rattle.state.specs.declared.parts.Site.{Site}
 use Rattle.state.specs.declared.parts.Flags.{Flags}
-use Rattle.state.specs.declared.parts.Seen.{Seen}
 use Rattle.state.specs.declared.parts.Settings.{Settings}
 use Rattle.state.specs.declared.parts.Files.{Files}
 use Rattle.state.specs.declared.parts.State.{State}

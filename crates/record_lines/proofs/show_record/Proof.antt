@@ -1,6 +1,6 @@
 -- `record_lines::show_record` is safe: a good definition has 32 numbers and a record of at most 250 bytes, and its size is
 -- what is lent. Assumes nothing.
-use mathlib.Core.Path.{sym, ap, _∙_}
+use mathlib.Core.Path.{sym, _∙_}
 use native.Mathlib.Omega.{arith}
 use borrow.Author.Needs.{needs}
 use lib.Seq.{length-take-le}

@@ -1,5 +1,5 @@
 -- `run_judged` is safe: what `judge` says of a good definition is what `run` asks. Assumes nothing.
-use mathlib.Core.Path.{sym, ap, _∙_}
+use mathlib.Core.Path.{sym, _∙_}
 use Prim.Native.Nat.{_-_}
 use lib.Seq.{length-take-le}
 use borrow.Author.Needs.{needs}

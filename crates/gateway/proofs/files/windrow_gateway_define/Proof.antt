@@ -1,5 +1,5 @@
 -- `files::windrow_gateway_define` meets its contract. Assumes nothing.
-use mathlib.Core.Path.{ap, sym, refl, _∙_}
+use mathlib.Core.Path.{sym, refl, _∙_}
 use borrow.Author.Tests.{not-true, not-false}
 use Rattle.gateway.proofs.Answers.{refused-first, own-next, within-inside}
 use Rattle.gateway.specs.Calls.{defineAnswer}

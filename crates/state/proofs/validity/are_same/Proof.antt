@@ -4,7 +4,7 @@ use native.Mathlib.Numerals.{add-one}
 use Prim.Native.Nat.{_-_, _≤_}
 use lib.Dec.{eqb}
 use lib.ListN.{getD}
-use mathlib.Core.Path.{_≡_, _∙_, ap, sym}
+use mathlib.Core.Path.{_≡_, ap, sym}
 use Rattle.archive.specs.Layout.{every}
 use Rattle.archive.proofs.Layouts.{every-none}
 use native.Mathlib.Omega.{arith}
