@@ -10,11 +10,12 @@
 --     part-back, take-pasted, length-pasted    a part that was lent and has come back; what stands before its end; the length
 --     part-part                         a part of a part
 --     part-before                       a part that ends at or before the place a of a pasted list is as it was
---     part-behind                       a part that starts at or behind the end of what was pasted is as it was
+--     drop-behind, part-behind          what lies, or a part that starts, at or behind the end of what was pasted is as it was
 --     part-here                         the part that was pasted reads as it was written
+--     pasted-over, pasted-append        pasted over something that was pasted, or right behind it
 --     rest-lent, rest-back              the same for all of a list behind its first k
 --     zero-at                           a list of zeros has 0 at every place
-use mathlib.Core.Path.{_≡_, refl, sym, ap, _∙_}
+use mathlib.Core.Path.{_≡_, refl, sym, ap, ap₂, _∙_}
 use mathlib.Core.List.{List, [], _∷_, _++_, map, append-nil, append-assoc}
 use mathlib.Core.Bool.{true}
 use mathlib.Core.Logic.{⊎-elim}
@@ -185,18 +186,33 @@ part-before xs ys a b n fits early =
     front (take a xs) (ys ++ drop (a + length ys) xs) b n long
     ∙ sym (front (take a xs) (drop a xs) b n long) ∙ ap (λ l. take n (drop b l)) (take-append-drop a xs)
 
-pub part-behind : (xs ys : List ℕ) (a b n : ℕ) → a ≤ length xs → a + length ys ≤ b → take n (drop b (pasted xs a ys)) ≡ take n (drop b xs)
-part-behind xs ys a b n fits late =
+pub drop-behind : (xs ys : List ℕ) (a b : ℕ) → a ≤ length xs → a + length ys ≤ b → drop b (pasted xs a ys) ≡ drop b xs
+drop-behind xs ys a b fits late =
     let end = a + length ys in
     let long : length (take a xs ++ ys) ≡ a + length ys = simp (length-append, length-take) (omega arith) in
     let rest : drop end (pasted xs a ys) ≡ drop end xs = rw (← append-assoc) (drop-at (take a xs ++ ys) (drop end xs) end long) in
     let there : a + length ys + (b - (a + length ys)) ≡ b = omega arith in
-    rw (← there) (ap (take n) (sym (drop-drop (b - end) end (pasted xs a ys)) ∙ ap (drop (b - end)) rest ∙ drop-drop (b - end) end xs))
+    rw (← there) (sym (drop-drop (b - end) end (pasted xs a ys)) ∙ ap (drop (b - end)) rest ∙ drop-drop (b - end) end xs)
+
+pub part-behind : (xs ys : List ℕ) (a b n : ℕ) → a ≤ length xs → a + length ys ≤ b → take n (drop b (pasted xs a ys)) ≡ take n (drop b xs)
+part-behind xs ys a b n fits late = ap (take n) (drop-behind xs ys a b fits late)
 
 pub part-here : (xs ys : List ℕ) (a : ℕ) → a ≤ length xs → take (length ys) (drop a (pasted xs a ys)) ≡ ys
 part-here xs ys a fits =
     ap (take (length ys)) (drop-at (take a xs) (ys ++ drop (a + length ys) xs) a (length-take-le a xs fits))
     ∙ take-append-seam ys (drop (a + length ys) xs)
+
+-- pasted from the start on, over something shorter that was pasted; and pasted right behind something that was
+pub pasted-over : (xs ys zs : List ℕ) (a : ℕ) → a ≤ length xs → a + length ys ≤ length zs → pasted (pasted xs a ys) 0 zs ≡ pasted xs 0 zs
+pasted-over xs ys zs a fits inside = ap (λ t. zs ++ t) (drop-behind xs ys a (0 + length zs) fits (omega arith))
+
+pub pasted-append : (xs ys zs : List ℕ) (a b : ℕ) → a + length ys ≤ length xs → b ≡ a + length ys →
+    pasted (pasted xs a ys) b zs ≡ pasted xs a (ys ++ zs)
+pasted-append xs ys zs a b fits end =
+    let far : b + length zs ≡ a + length (ys ++ zs) = simp length-append (omega arith) in
+    let rest : drop (b + length zs) (pasted xs a ys) ≡ drop (a + length (ys ++ zs)) xs
+    = drop-behind xs ys a (b + length zs) (omega arith) (omega arith) ∙ ap (λ k. drop k xs) far in
+    ap₂ (λ f t. f ++ (zs ++ t)) (take-pasted xs ys a b fits end) rest ∙ simp append-assoc
 
 -- a list of no length
 pub length-zero : (xs : List ℕ) → length xs ≡ 0 → xs ≡ []

@@ -2,8 +2,12 @@
 --     crc-fits         a CRC is below 65,536
 --     last-two         the last two numbers of a list
 --     framed-checks    a list followed by its CRC, low byte first, ends in its CRC
+--     length-framed    its length
+--     crc-behind       the CRC of a buffer's first bytes, stored behind them
+--     header-closed    three bytes of a header before bytes that stand in a buffer, and the CRC behind them
+--     closed-over      bytes that were put behind the place of a header, made a read reply
 --     word-read-back   a word written at any place of a list reads back
-use mathlib.Core.Path.{_≡_, sym, ap, _∙_}
+use mathlib.Core.Path.{_≡_, sym, ap, _∙_, subst}
 use mathlib.Core.List.{List, [], _∷_, _++_, append-assoc}
 use mathlib.Core.Bool.{Bool, true, false, cond}
 use Prim.Native.Nat.{ℕ, zero, suc, _+_, _-_, _/_, _%_, _^_, _≤_, _<_}
@@ -13,10 +17,12 @@ use borrow.Author.Tests.{le-leb}
 use lib.Dec.{eqb, leb, lit<}
 use lib.Bits.{bitXor, xor-lt}
 use lib.ListN.{length, getD, take, drop, length-append}
-use lib.Seq.{drop-cons, drop-length, getD-at, length-take-le, take-append-seam, drop-append-seam}
+use lib.Seq.{sets, drop-cons, drop-length, getD-at, length-take-le, take-append-seam, drop-append-seam}
 use Rattle.basics.specs.Lists.{pasted}
+use Rattle.basics.proofs.Lists.{sets-pasted, part-here, pasted-over}
 use Rattle.basics.proofs.Tests.{eqb-same}
 use Rattle.modbus.specs.Crc.{crcShift, crcShifts, crcByte, crcFrom, crcOf, crcBytes, withCrc, endsInCrc}
+use Rattle.modbus.specs.Frame.{readReply, Sent}
 use Rattle.modbus.specs.Word.{wordAt, wordBytes}
 
 -- ---- the CRC fits 16 bits
@@ -68,6 +74,44 @@ framed-checks bs =
     let body : take (length bs) (bs ++ crcBytes c) ≡ bs = take-append-seam bs (crcBytes c) in
     let tail : drop (length bs) (bs ++ crcBytes c) ≡ crcBytes c = drop-append-seam bs (crcBytes c) in
     simp (n, two, front, body, tail, eqb-same)
+
+pub length-framed : (bs : List ℕ) → length (withCrc bs) ≡ length bs + 2
+unfolding withCrc
+length-framed bs = length-append bs (crcBytes (crcOf bs))
+
+-- ---- frames in a buffer
+pub crc-behind : (b : List ℕ) (n sum : ℕ) → n + 2 ≤ length b → sum ≡ crcOf (take n b) → sets b n (crcBytes sum) ≡ pasted b 0 (withCrc (take n b))
+unfolding withCrc
+crc-behind b n sum fits is =
+    let front = take n b in
+    let end : n + 2 ≡ 0 + length (take n b ++ crcBytes (crcOf (take n b))) = simp (length-append, length-take-le n b (omega arith)) (omega arith) in
+    ap (λ c. sets b n (crcBytes c)) is
+    ∙ sets-pasted b (crcBytes (crcOf front)) n fits
+    ∙ sym (append-assoc front (crcBytes (crcOf front)) (drop (n + 2) b))
+    ∙ ap (λ k. (front ++ crcBytes (crcOf front)) ++ drop k b) end
+
+pub header-closed : (b : List ℕ) (x y z size n : ℕ) → size + 5 ≤ length b → n ≡ size + 3 →
+    let headed = sets b 0 (x ∷ y ∷ z ∷ []) in
+    pasted headed 0 (withCrc (take n headed)) ≡ pasted b 0 (withCrc (x ∷ y ∷ z ∷ take size (drop 3 b)))
+header-closed b x y z size n fits is =
+    let head = x ∷ y ∷ z ∷ [] in
+    let long : n ≡ suc (suc (suc size)) = omega arith in
+    ap (λ h. pasted h 0 (withCrc (take n h))) (sets-pasted b head 0 (omega arith))
+    ∙ ap (λ k. pasted (pasted b 0 head) 0 (withCrc (take k (pasted b 0 head)))) long
+    ∙ pasted-over b head (withCrc (x ∷ y ∷ z ∷ take size (drop 3 b))) 0 (omega arith) (rw length-framed (omega arith))
+
+-- bytes that were put behind the place of a header, made a read reply
+pub closed-over : (b bytes b′ : List ℕ) (unit size told : ℕ) → length bytes ≡ size → 3 + size ≤ length b →
+    Sent (readReply unit (take size (drop 3 (pasted b 3 bytes)))) (pasted b 3 bytes) told b′ → Sent (readReply unit bytes) b told b′
+unfolding readReply
+closed-over b bytes b′ unit size told long fits sent =
+    let there : take size (drop 3 (pasted b 3 bytes)) ≡ bytes
+    = ap (λ n. take n (drop 3 (pasted b 3 bytes))) (sym long) ∙ part-here b bytes 3 (omega arith) in
+    let now = subst (λ x. Sent (readReply unit x) (pasted b 3 bytes) told b′) there sent in
+    record {
+      size = now .size;
+      left = now .left ∙ pasted-over b bytes (readReply unit bytes) 3 (omega arith) (rw length-framed (omega arith));
+    }
 
 -- ---- words
 pub word-read-back : (s : List ℕ) (i w : ℕ) → i + 2 ≤ length s → wordAt (pasted s i (wordBytes w)) i ≡ w
