@@ -1,6 +1,5 @@
 -- Laws of the calls' answers. Assumes nothing.
 --     refused-first    the state's own number, Memory (1) or Foreign (2), is byNumber before what the call itself would answer
---     within-inside    what a range test that holds gives
 --     fresh-parts      the length and the unit that Fresh takes
 --     refused-or-done    a call that has one number of its own
 --     own-next         where neither applies, the call's own answer stands
@@ -38,9 +37,6 @@ refused-or-done s new number refused k = go (eqb number 0) refused refl
     go true true is = simp (eqb·suc-zero k)
     go true false is = refl
     go false r is = simp is
-
-pub within-inside : (lo hi x : ℕ) → within lo hi x ≡ true → (lo ≤ x) × (x ≤ hi)
-within-inside lo hi x holds = (leb-true lo x (and-left (leb lo x) (leb x hi) holds), leb-true x hi (and-right (leb lo x) (leb x hi) holds))
 
 pub fresh-parts : (unit size : ℕ) → freshNumber unit size ≡ 0 → (within leastMemory mostMemory size ≡ true) × (within 1 247 unit ≡ true)
 unfolding freshNumber

@@ -5,3 +5,4 @@ pub mod Drafts
 pub mod Settings
 pub mod Valid
 pub mod Scans
+pub mod Polls

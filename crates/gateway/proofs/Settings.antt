@@ -15,6 +15,7 @@ use borrow.Author.Tests.{eqb-true, not-false}
 use Rattle.points.specs.Table.{booleanOrNone}
 use Rattle.points.specs.Groups.{judgedCard}
 use Rattle.basics.specs.Numbers.{within}
+use Rattle.basics.proofs.Tests.{by-cond}
 use Rattle.archive.specs.Layout.{redefined}
 use Rattle.archive.specs.Alarms.{goodSlot}
 use Rattle.state.specs.declared.parts.State.{State}
@@ -22,10 +23,6 @@ use Rattle.state.specs.State.{freshState, zeroState, withFlags, withDraft, with
 use Rattle.state.specs.Validity.{stateNumber}
 use Rattle.gateway.specs.declared.calls.Answer.{Answer}
 use Rattle.gateway.specs.Calls.{told, done, settled, unlockAnswer, lockAnswer, stopAnswer, triggerAnswer, alarmAnswer, definitionAnswer, defineAnswer, draftFits, startAnswer, startMemory, freshNumber, freshAnswer, freshMemory}
-
-by-cond : (Q : Answer → Type 0) (b : Bool) (x y : Answer) → (b ≡ true → Q x) → (b ≡ false → Q y) → Q (cond b x y)
-by-cond Q true x y p q = p refl
-by-cond Q false x y p q = q refl
 
 -- ---- refused with the state as it was, or done
 module _ (Q : Answer → Type 0) (s : State) (size : ℕ) (refused : (n v : ℕ) → Q (told s n v)) where

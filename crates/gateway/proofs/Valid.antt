@@ -21,7 +21,8 @@ use Rattle.state.specs.Validity.{goodTriggers, withinLimits, valid}
 use Rattle.state.proofs.Clauses.{valid-split, valid-join, within-join}
 use Rattle.gateway.specs.declared.calls.Answer.{Answer}
 use Rattle.gateway.specs.Calls.{told, unlockAnswer, lockAnswer, stopAnswer, triggerAnswer, alarmAnswer, defineAnswer, startAnswer, leastMemory, mostMemory, freshNumber}
-use Rattle.gateway.proofs.Answers.{within-inside, fresh-parts}
+use Rattle.basics.proofs.Tests.{within-inside}
+use Rattle.gateway.proofs.Answers.{fresh-parts}
 use Rattle.gateway.proofs.Drafts.{drafts-stay-good}
 use Rattle.gateway.proofs.Settings.{by-unlock, by-lock, by-stop, by-trigger, by-alarm, by-define, by-start}
 

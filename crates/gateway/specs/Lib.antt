@@ -1,3 +1,4 @@
 pub mod Calls
 pub mod Scan
+pub mod Poll
 pub mod Lent

@@ -1,6 +1,6 @@
 -- Demand 2: from the reply that carries a captured record the reading end gets back date, kind and value of every captured point.
 -- Assumes nothing.
--- The frame is `readReply`, the reply that document 01 lays out; that the gateway sends it belongs to the frame call's contract.
+-- The frame is `readReply`, the reply that document 01 lays out; that the gateway sends it is `machine`'s demand 2, from end to end.
 --     gets-back        the theorem: what the exported calls answer, in numbers, gives back the record's place, its stamp, and for every
 --                      point of every group the kind and value that it has in the table, which is one of bytes
 --     zeros-empty, filled-not-empty    a record of zeros answers Empty, and a filled one never does
@@ -14,7 +14,7 @@ use borrow.Author.Tests.{ne-eqb, le-leb}
 use lib.Dec.{ltb}
 use lib.ListN.{length, getD, take, drop, length-append}
 use lib.Seq.{take-at}
-use Rattle.basics.specs.Card.{card, doneCard, doneNo, garbledNo, emptyNo}
+use Rattle.basics.specs.Card.{card, doneNo, garbledNo, emptyNo}
 use Rattle.basics.specs.Lists.{Bytes, allZero}
 use Rattle.basics.specs.Numbers.{within}
 use Rattle.basics.proofs.Tests.{eqb-same}
@@ -40,9 +40,10 @@ use Rattle.records.proofs.Found.{stamp-back, record-not-zero, record-stretch, o
 use Rattle.reader.specs.declared.frame.Checked.the-variants as Checked
 use Rattle.reader.specs.Checked.{checkedCard}
 use Rattle.reader.specs.Frame.{isReply, recordPart, recordChecked, replyChecked, frameChecked, stretchChecked, stretchFrom, stretchLength, stretchPart}
-use Rattle.reader.specs.Answers.{answered, pointIn, pointFound, pointValue, partAnswer, stampTold, recordAnswer, stampAnswer, pointAnswer}
+use Rattle.reader.specs.Answers.{answered, pointIn, pointFound, pointValue, recordAnswer, stampAnswer, pointAnswer}
 use Rattle.reader.proofs.Laws.{place-fits, named-is, value-of, flag-of}
-use Rattle.reader.proofs.Told.{toldBy, numbers-tell, table-fits}
+use Rattle.reader.specs.Demand2.{recordReply, toldBy, GetsBack}
+use Rattle.reader.proofs.Told.{numbers-tell, table-fits}
 
 -- ---- Empty is told of zeros, and only of zeros
 pub zeros-empty : (gs : List ℕ) (d : Bool) (f : List ℕ) (size : ℕ) → judged gs ≡ Good size → isReply f size ≡ true →
@@ -90,20 +91,6 @@ unfolding pointsSize
 points-size-wide r n wide = simp (ne-eqb (r .size) 0 wide)
 
 -- ---- what the reading end gets back
--- the reply to a poll of a captured record
-abbrev pub replyTo : ℕ → Bool → Stamp → List ℕ → List ℕ → List ℕ
-replyTo unit d s t gs = readReply unit (recordOf d s t gs)
-
-pub record GetsBack (unit size : ℕ) (d : Bool) (s : Stamp) (t gs : List ℕ) : Type 0 where
-  -- the record is the part that starts at byte 3
-  pub whole : recordAnswer gs d (replyTo unit d s t gs) ≡ partAnswer doneCard 3 size
-  -- the stamp comes back
-  pub stamp : stampAnswer gs d (replyTo unit d s t gs) ≡ stampTold doneCard s
-  -- at every place and point the answer is done, and its numbers tell the kind and value of that point in the table
-  pub point : (g e : ℕ) (r : Row) → 1 ≤ g → g ≤ 16 → groupAt gs (g - 1) ≡ Points r → 1 ≤ e → e ≤ countAt gs (g - 1) →
-      let answer = pointAnswer (pointValue gs d (replyTo unit d s t gs) g e) in
-      (answer .number ≡ doneNo) × (toldBy (replyTo unit d s t gs) answer ≡ valueInTable t r (firstPointAt gs (g - 1) + (e - 1)))
-
 -- a value that is answered is done
 answered-done : (v : PointValue) (at : ℕ) → pointAnswer (answered v at) .number ≡ doneNo
 answered-done (flag b) at = refl
@@ -117,28 +104,28 @@ module _ (unit size : ℕ) (d : Bool) (s : Stamp) (t gs : List ℕ)
   long : length (recordOf d s t gs) ≡ size
   long = record-length d s t gs ∙ sym (judged-good gs size good .sized)
 
-  reply-long : length (replyTo unit d s t gs) ≡ size + 5
+  reply-long : length (recordReply unit d s t gs) ≡ size + 5
   unfolding readReply withCrc
   reply-long = simp length-append (omega (arith, long))
 
-  record-in : recordPart (replyTo unit d s t gs) size ≡ recordOf d s t gs
+  record-in : recordPart (recordReply unit d s t gs) size ≡ recordOf d s t gs
   unfolding readReply withCrc
   record-in = take-at (recordOf d s t gs) _ size long
 
-  ends : endsInCrc (replyTo unit d s t gs) ≡ true
+  ends : endsInCrc (recordReply unit d s t gs) ≡ true
   unfolding readReply
   ends = framed-checks (unit ∷ 3 ∷ length (recordOf d s t gs) ∷ recordOf d s t gs)
 
   -- unit, function and byte count
-  head : (getD (replyTo unit d s t gs) 0 0 ≡ unit) × (getD (replyTo unit d s t gs) 1 0 ≡ 3) × (getD (replyTo unit d s t gs) 2 0 ≡ length (recordOf d s t gs))
+  head : (getD (recordReply unit d s t gs) 0 0 ≡ unit) × (getD (recordReply unit d s t gs) 1 0 ≡ 3) × (getD (recordReply unit d s t gs) 2 0 ≡ length (recordOf d s t gs))
   unfolding readReply withCrc
   head = (refl, refl, refl)
 
-  checks : isReply (replyTo unit d s t gs) size ≡ true
+  checks : isReply (recordReply unit d s t gs) size ≡ true
   unfolding isReply
   checks = simp (reply-long, eqb-same, head .0, ours, head .1, head .2, long, ends)
 
-  frame-done : frameChecked gs d (replyTo unit d s t gs) ≡ Checked.Good size
+  frame-done : frameChecked gs d (recordReply unit d s t gs) ≡ Checked.Good size
   unfolding frameChecked replyChecked recordChecked
   frame-done = simp (good, checks, record-in, record-not-zero d s t gs dated, stamp-back d s t gs, dated, long)
 
@@ -150,22 +137,22 @@ module _ (unit size : ℕ) (d : Bool) (s : Stamp) (t gs : List ℕ)
     n : ℕ
     n = countAt gs (g - 1)
 
-    stretch-done : stretchChecked gs d (replyTo unit d s t gs) g ≡ Checked.Good size
+    stretch-done : stretchChecked gs d (recordReply unit d s t gs) g ≡ Checked.Good size
     unfolding stretchChecked
     stretch-done = simp (frame-done, le-leb 1 g from, le-leb g 16 to, is)
 
     fits : stretchFrom gs g + stretchLength gs g ≤ size
     fits = place-fits gs g size (judged-good gs size good) from to
 
-    in-record : stretchPart gs (recordPart (replyTo unit d s t gs) size) g ≡ capturedPoints t r p n
+    in-record : stretchPart gs (recordPart (recordReply unit d s t gs) size) g ≡ capturedPoints t r p n
     unfolding p n
     in-record =
         ap (λ l. stretchPart gs l g) record-in ∙ record-stretch d s t gs (g - 1) (omega arith)
         ∙ ap (λ x. capturedGroup t x (firstPointAt gs (g - 1)) (countAt gs (g - 1))) is
 
-    in-frame : take (stretchLength gs g) (drop (3 + stretchFrom gs g) (replyTo unit d s t gs)) ≡ capturedPoints t r p n
+    in-frame : take (stretchLength gs g) (drop (3 + stretchFrom gs g) (recordReply unit d s t gs)) ≡ capturedPoints t r p n
     in-frame =
-        sym (part-part (replyTo unit d s t gs) 3 size (stretchFrom gs g) (stretchLength gs g) (omega (arith, reply-long)) fits) ∙ in-record
+        sym (part-part (recordReply unit d s t gs) 3 size (stretchFrom gs g) (stretchLength gs g) (omega (arith, reply-long)) fits) ∙ in-record
 
     -- ---- a point of it
     module _ (e : ℕ) (some : 1 ≤ e) (most : e ≤ n) where
@@ -173,16 +160,16 @@ module _ (unit size : ℕ) (d : Bool) (s : Stamp) (t gs : List ℕ)
       unfolding p n
       in-table = found-value t r p n (e - 1) table is (omega arith)
 
-      value-back : pointValue gs d (replyTo unit d s t gs) g e ≡ answered (valueInTable t r (p + (e - 1))) (3 + stretchFrom gs g + (e - 1) * r .size)
+      value-back : pointValue gs d (recordReply unit d s t gs) g e ≡ answered (valueInTable t r (p + (e - 1))) (3 + stretchFrom gs g + (e - 1) * r .size)
       unfolding pointValue p n
       value-back =
-          ap (λ c. pointFound c gs (replyTo unit d s t gs) g e) stretch-done
+          ap (λ c. pointFound c gs (recordReply unit d s t gs) g e) stretch-done
           ∙ ap₂ (λ x l. pointIn x l (3 + stretchFrom gs g) n e) (named-is gs g from to ∙ is) in-record
           ∙ simp (le-leb 1 e some, le-leb e n most) (ap (λ v. answered v (3 + stretchFrom gs g + (e - 1) * r .size)) in-table)
 
       -- a text's bytes in the frame are the text
       words-back : (bs : List ℕ) → valueInTable t r (p + (e - 1)) ≡ text bs →
-          take (length bs) (drop (3 + stretchFrom gs g + (e - 1) * r .size) (replyTo unit d s t gs)) ≡ bs
+          take (length bs) (drop (3 + stretchFrom gs g + (e - 1) * r .size) (recordReply unit d s t gs)) ≡ bs
       unfolding p n
       words-back bs says =
           let z = r .size in
@@ -191,16 +178,16 @@ module _ (unit size : ℕ) (d : Bool) (s : Stamp) (t gs : List ℕ)
           let ends : (i + 1) * z ≤ n * z = mul-le-mul-right z (omega arith) in
           let next : (i + 1) * z ≡ i * z + 1 * z = add-mul i 1 z in
           let sized : stretchLength gs g ≡ n * z = ap (λ x. groupSize x n) is ∙ points-size-wide r n (own .0) in
-          let here : take z (drop (3 + stretchFrom gs g + i * z) (replyTo unit d s t gs)) ≡ bs
-          = sym (part-part (replyTo unit d s t gs) (3 + stretchFrom gs g) (stretchLength gs g) (i * z) z (omega (arith, reply-long, fits)) (omega (arith, ends, next, sized)))
+          let here : take z (drop (3 + stretchFrom gs g + i * z) (recordReply unit d s t gs)) ≡ bs
+          = sym (part-part (recordReply unit d s t gs) (3 + stretchFrom gs g) (stretchLength gs g) (i * z) z (omega (arith, reply-long, fits)) (omega (arith, ends, next, sized)))
           ∙ ap (λ l. take z (drop (i * z) l)) in-frame ∙ own .1 in
           let count : length bs ≡ z
-          = ap length (sym here) ∙ length-part (replyTo unit d s t gs) (3 + stretchFrom gs g + i * z) z (omega (arith, reply-long, fits, ends, next, sized)) in
-          ap (λ k. take k (drop (3 + stretchFrom gs g + i * z) (replyTo unit d s t gs))) count ∙ here
+          = ap length (sym here) ∙ length-part (recordReply unit d s t gs) (3 + stretchFrom gs g + i * z) z (omega (arith, reply-long, fits, ends, next, sized)) in
+          ap (λ k. take k (drop (3 + stretchFrom gs g + i * z) (recordReply unit d s t gs))) count ∙ here
 
       -- the answer in numbers
-      point-back : let answer = pointAnswer (pointValue gs d (replyTo unit d s t gs) g e) in
-          (answer .number ≡ doneNo) × (toldBy (replyTo unit d s t gs) answer ≡ valueInTable t r (p + (e - 1)))
+      point-back : let answer = pointAnswer (pointValue gs d (recordReply unit d s t gs) g e) in
+          (answer .number ≡ doneNo) × (toldBy (recordReply unit d s t gs) answer ≡ valueInTable t r (p + (e - 1)))
       unfolding p n
       point-back =
           let v = valueInTable t r (p + (e - 1)) in
@@ -208,7 +195,7 @@ module _ (unit size : ℕ) (d : Bool) (s : Stamp) (t gs : List ℕ)
           let size = lookup-size p r (group-inside p n r is .0) in
           let fits = table-fits t r (p + (e - 1)) bytes size (own-inside t r p n (e - 1) table is (omega arith)) in (
             ap (λ x. pointAnswer x .number) value-back ∙ answered-done v at,
-            ap (λ x. toldBy (replyTo unit d s t gs) (pointAnswer x)) value-back ∙ numbers-tell (replyTo unit d s t gs) v at fits words-back,
+            ap (λ x. toldBy (recordReply unit d s t gs) (pointAnswer x)) value-back ∙ numbers-tell (recordReply unit d s t gs) v at fits words-back,
           )
 
   pub gets-back : GetsBack unit size d s t gs

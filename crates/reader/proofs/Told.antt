@@ -7,7 +7,7 @@ use mathlib.Core.Bool.{Bool, true, false, cond}
 use Prim.Native.Nat.{ℕ, suc, _+_, _-_, _*_, _^_, _≤_, _<_}
 use native.Mathlib.Omega.{arith}
 use borrow.Author.Tests.{ltb-true, ltb-false, lt-ltb, le-ltb, ne-eqb}
-use lib.Dec.{eqb, ltb}
+use lib.Dec.{ltb}
 use lib.IntN.{ℤ, pos, negsuc, _-ℤ_}
 use lib.ListN.{length, getD, take, drop}
 use Rattle.basics.specs.Lists.{Bytes}
@@ -18,19 +18,10 @@ use Rattle.points.specs.Table.{placeOf}
 use Rattle.points.proofs.Laws.{kindSize}
 use Rattle.modbus.specs.Word.{numberOf, wordAt}
 use Rattle.records.specs.Value.{PointValue, flag, int16, int32, float, text, signed, tableValue, bytesInTable, valueInTable}
-use Rattle.reader.specs.declared.answers.PointAnswer.{PointAnswer}
 use Rattle.reader.specs.Answers.{answered, bits32, pointAnswer}
 use Rattle.reader.proofs.Laws.{two-bytes, four-bytes}
+use Rattle.reader.specs.Demand2.{toldBy}
 use Rattle.reader.proofs.Signed.{high}
-
--- what a driver makes of the numbers of an answer that is done, as windrow_reader.h says; f is the frame, which has the texts
-abbrev pub toldBy : List ℕ → PointAnswer → PointValue
-toldBy f a =
-    cond (eqb (a .kind) 1) (flag (eqb (a .bits) 1))
-    (cond (eqb (a .kind) 2) (int16 (signed 32 (a .bits)))
-    (cond (eqb (a .kind) 3) (int32 (signed 32 (a .bits)))
-    (cond (eqb (a .kind) 4) (float (a .bits))
-    (text (take (a .length) (drop (a .place) f))))))
 
 -- a whole number of 32 bits, the highest of them the sign
 abbrev in32 : ℤ → Bool

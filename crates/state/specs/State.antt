@@ -98,3 +98,14 @@ withScan s pointers booleans = record {
   line = s .line;
   settings = s .settings;
 }
+
+-- a 06 that is done: other requested numbers
+abbrev pub withRequested : State → List ℕ → State
+withRequested s numbers = record {
+  site = s .site;
+  flags = s .flags;
+  seen = s .seen;
+  files = s .files;
+  line = record { requested = numbers };
+  settings = s .settings;
+}

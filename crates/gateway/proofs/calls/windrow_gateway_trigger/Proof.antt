@@ -2,7 +2,8 @@
 use mathlib.Core.Path.{ap, sym, refl, _∙_}
 use native.Mathlib.Omega.{arith}
 use borrow.Author.Tests.{not-true, not-false}
-use Rattle.gateway.proofs.Answers.{refused-first, own-next, within-inside, point-small}
+use Rattle.basics.proofs.Tests.{within-inside}
+use Rattle.gateway.proofs.Answers.{refused-first, own-next, point-small}
 use Rattle.gateway.specs.Calls.{told, triggerAnswer}
 use borrow.Author.Needs.{needs}
 use Rattle.gateway.proofs.calls.windrow_gateway_trigger.Statement.{statement}

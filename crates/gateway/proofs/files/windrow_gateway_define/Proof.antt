@@ -1,7 +1,8 @@
 -- `files::windrow_gateway_define` meets its contract. Assumes nothing.
 use mathlib.Core.Path.{sym, refl, _∙_}
 use borrow.Author.Tests.{not-true, not-false}
-use Rattle.gateway.proofs.Answers.{refused-first, own-next, within-inside}
+use Rattle.basics.proofs.Tests.{within-inside}
+use Rattle.gateway.proofs.Answers.{refused-first, own-next}
 use Rattle.gateway.specs.Calls.{defineAnswer}
 use borrow.Author.Needs.{needs}
 use Rattle.gateway.proofs.files.windrow_gateway_define.Statement.{statement}

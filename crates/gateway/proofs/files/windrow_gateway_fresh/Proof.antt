@@ -3,7 +3,8 @@ use mathlib.Core.Path.{ap, ap₂, sym, refl, _∙_}
 use native.Mathlib.Omega.{arith}
 use borrow.Author.Tests.{ne-eqb}
 use lib.ListN.{length}
-use Rattle.gateway.proofs.Answers.{fresh-parts, within-inside}
+use Rattle.basics.proofs.Tests.{within-inside}
+use Rattle.gateway.proofs.Answers.{fresh-parts}
 use Rattle.gateway.specs.Calls.{told, leastMemory, mostMemory, freshNumber, freshAnswer, freshMemory}
 use borrow.Author.Needs.{needs}
 use Rattle.gateway.proofs.files.windrow_gateway_fresh.Statement.{statement}

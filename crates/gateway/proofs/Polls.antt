@@ -1,0 +1,93 @@
+-- Laws of the poll. Assumes nothing.
+--     poll-number-is    the code's number, in the words of the definition
+--     poll-taken        none of a poll's numbers applies
+--     poll-lends        what the answering function is lent then
+--     poll-refuses, poll-done    what a refused poll leaves, and one that is done
+--     poll-short        its reply's length fits
+--     poll-valid        it leaves a valid state valid
+use mathlib.Core.Path.{_≡_, refl, ap, _∙_}
+use mathlib.Core.List.{List}
+use mathlib.Core.Bool.{Bool, true, false, cond}
+use Prim.Native.Nat.{ℕ, _≤_}
+use native.Mathlib.Omega.{arith}
+use borrow.Author.Tests.{eqb-true, eqb-false, ne-eqb, ltb-false}
+use lib.Dec.{eqb, ltb}
+use lib.ListN.{length}
+use Rattle.basics.specs.Card.{doneNo, replyNo, firstOf}
+use Rattle.basics.proofs.Tests.{by-cond}
+use Rattle.archive.specs.Layout.{alarmDepth}
+use Rattle.archive.specs.Lent.{SizesOf}
+use Rattle.polls.specs.Frames.{replyTo, Answers}
+use Rattle.polls.specs.Lent.{leastBuffer}
+use Rattle.polls.proofs.Laws.{requested-within}
+use Rattle.polls.proofs.Lengths.{reply-short}
+use Rattle.state.specs.declared.parts.State.{State}
+use Rattle.state.specs.State.{laidOut, withRequested}
+use Rattle.state.specs.Validity.{stateNumber, valid}
+use Rattle.state.proofs.Clauses.{valid-split, valid-join, within-split, within-join, state-taken}
+use Rattle.gateway.specs.declared.poll.PollAnswer.{PollAnswer}
+use Rattle.gateway.specs.Poll.{pollView, pollNumber, pollTold, pollAnswer, pollBuffer, Polled}
+use Rattle.gateway.specs.Lent.{LentFrame}
+
+pub poll-number-is : (s : State) (size bufferSize n : ℕ) → n ≡ stateNumber s size →
+    firstOf n (cond (ltb bufferSize leastBuffer) replyNo doneNo) ≡ pollNumber s size bufferSize
+unfolding pollNumber
+poll-number-is s size bufferSize n is = ap (λ k. firstOf k (cond (ltb bufferSize leastBuffer) replyNo doneNo)) is
+
+pub poll-taken : (s : State) (size bufferSize : ℕ) → pollNumber s size bufferSize ≡ 0 → (stateNumber s size ≡ 0) × (leastBuffer ≤ bufferSize)
+unfolding pollNumber
+poll-taken s size bufferSize taken = go (eqb (stateNumber s size) 0) (ltb bufferSize leastBuffer) refl refl taken
+  where
+    go : (a b : Bool) → eqb (stateNumber s size) 0 ≡ a → ltb bufferSize leastBuffer ≡ b → cond a (cond b 13 0) (stateNumber s size) ≡ 0 →
+        (stateNumber s size ≡ 0) × (leastBuffer ≤ bufferSize)
+    go false b state short q = absurd (eqb-false (stateNumber s size) 0 state q)
+    go true true state short q = absurd (omega (arith, q))
+    go true false state short q = (eqb-true _ _ state, ltb-false _ _ short)
+
+module _ (s : State) (m frame buffer : List ℕ) where
+  abbrev number : ℕ
+  number = pollNumber s (length m) (length buffer)
+
+  pub poll-refuses : (n : ℕ) → n ≡ pollNumber s (length m) (length buffer) → (n ≡ 0 → ⊥) → Polled s m frame buffer (pollTold s n 0) m buffer
+  unfolding pollAnswer pollBuffer
+  poll-refuses n is some =
+      let refused : eqb number 0 ≡ false = ne-eqb number 0 (λ none. some (is ∙ none)) in
+      record { answer = rw (is, refused) refl; memory = refl; reply = rw refused refl }
+
+  pub poll-lends : (sizes : List ℕ) → pollNumber s (length m) (length buffer) ≡ 0 → SizesOf (s .files .layout .groups) sizes →
+      LentFrame (s .files) sizes alarmDepth (s .line .requested) m buffer
+  poll-lends sizes taken sized =
+      let both = poll-taken s (length m) (length buffer) taken in
+      let state = state-taken s (length m) (both .0) in
+      let holds = valid-split s (state .1) in
+      record { laid = holds .laid; room = rw (state .0) (holds .room); sized = sized; buffered = both .1 }
+
+  pub poll-done : (told : ℕ) (buffer′ requested′ : List ℕ) → pollNumber s (length m) (length buffer) ≡ 0 →
+      Answers (pollView s m) frame buffer told buffer′ requested′ → Polled s m frame buffer (pollTold (withRequested s requested′) 0 told) m buffer′
+  unfolding pollAnswer pollBuffer
+  poll-done told buffer′ requested′ taken answers =
+      record { answer = rw (taken, answers .asks, answers .sent .size) refl; memory = refl; reply = rw taken (answers .sent .left) }
+
+  pub poll-short : pollNumber s (length m) (length buffer) ≡ 0 → length (replyTo (pollView s m) frame) ≤ leastBuffer
+  unfolding pollView
+  poll-short taken =
+      let state = state-taken s (length m) (poll-taken s (length m) (length buffer) taken .0) in
+      reply-short (s .site .unit) (laidOut s) (s .files .pointers) (s .line .requested) m (valid-split s (state .1) .laid) frame
+
+  pub poll-valid : valid s ≡ true → valid (pollAnswer s m frame (length buffer) .state) ≡ true
+  unfolding pollAnswer pollView
+  poll-valid sound =
+      let k = valid-split s sound in
+      by-cond (λ (r : PollAnswer). valid (r .state) ≡ true) (eqb number 0) _ _
+      (λ _. valid-join _ (record {
+        flags = k .flags;
+        drafts = k .drafts;
+        triggers = k .triggers;
+        slots = k .slots;
+        laid = k .laid;
+        room = k .room;
+        pointers = k .pointers;
+        requested = within-join _ (laidOut s) (requested-within (pollView s m) frame (within-split (s .line .requested) (laidOut s) (k .requested)));
+        unit = k .unit;
+      }))
+      (λ _. sound)

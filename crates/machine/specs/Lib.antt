@@ -1,0 +1,5 @@
+pub mod Machine
+pub mod View
+pub mod Runs
+pub mod Readings
+pub mod Demand2

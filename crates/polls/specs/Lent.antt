@@ -1,0 +1,71 @@
+-- What the functions of this crate are lent, by a poll that is not refused.
+use mathlib.Core.Path.{_≡_}
+use mathlib.Core.List.{List, []}
+use mathlib.Core.Bool.{true}
+use Prim.Native.Nat.{ℕ, _+_, _≤_, _<_}
+use lib.ListN.{length}
+use Rattle.archive.specs.Layout.{layoutFrom, definedFiles, allFiles, hasRoom}
+use Rattle.archive.specs.declared.layout.File.{File}
+use Rattle.archive.specs.Lent.{LentRing, LentLayout}
+use Rattle.polls.specs.declared.request.Asked.{Asked}
+use Rattle.polls.specs.declared.request.Asked.the-variants.{Exception, WholeRecord, StampOnly, Registers, SetRequested}
+use Rattle.polls.specs.View.{View, archiveView}
+use Rattle.polls.specs.Addresses.{allRegisters}
+
+-- the least bytes of a reply buffer: no reply is longer
+abbrev pub leastBuffer : ℕ
+leastBuffer = 256
+
+-- what registers are read from; unit, groups and memory are not among it
+pub record LentRegisters (limits pointers requested : List ℕ) : Type 0 where
+  pub limited : length limits ≡ definedFiles
+  pub pointed : length pointers ≡ allFiles
+  pub numbered : length requested ≡ allFiles
+
+abbrev pub registerView : List ℕ → ℕ → List ℕ → List ℕ → View
+registerView limits depth pointers requested = archiveView 0 (layoutFrom [] limits depth) pointers requested []
+
+-- record k of a file in archive memory m, of which the first `size` bytes are sent
+pub record LentRecord (file : File) (k size : ℕ) (m buffer : List ℕ) : Type 0 where
+  pub ring : LentRing file m
+  pub first : 1 ≤ k
+  pub last : k ≤ file .limit
+  pub part : size ≤ file .size
+  pub short : file .size ≤ 250
+  pub buffered : leastBuffer ≤ length buffer
+
+-- a layout, measured and within archive memory m; a pointer and a requested number for each file; a reply buffer
+pub record LentPoll (groups limits sizes : List ℕ) (depth : ℕ) (pointers requested m buffer : List ℕ) : Type 0 where
+  pub layout : LentLayout groups limits sizes
+  pub room : hasRoom (layoutFrom groups limits depth) (length m) ≡ true
+  pub pointed : length pointers ≡ allFiles
+  pub numbered : length requested ≡ allFiles
+  pub buffered : leastBuffer ≤ length buffer
+
+-- ---- what is asked has passed its checks
+-- a number of file f
+pub record Numbered (limit : ℕ → ℕ) (f k : ℕ) : Type 0 where
+  pub file : f < allFiles
+  pub first : 1 ≤ k
+  pub last : k ≤ limit f
+
+abbrev pub Passed : (ℕ → ℕ) → Asked → Type 0
+Passed limit (Exception code) = Unit {0}
+Passed limit (WholeRecord f k) = Numbered limit f k
+Passed limit (StampOnly f k) = Numbered limit f k
+Passed limit (Registers i q) = i + q ≤ allRegisters
+Passed limit (SetRequested f x) = Numbered limit f x
+
+-- a requested number that is set is a file's
+abbrev pub SetsFile : Asked → Type 0
+SetsFile (Exception code) = Unit {0}
+SetsFile (WholeRecord f k) = Unit {0}
+SetsFile (StampOnly f k) = Unit {0}
+SetsFile (Registers i q) = Unit {0}
+SetsFile (SetRequested f x) = f < allFiles
+
+-- and the frame that asks it has a function, and where it is echoed no more bytes than a reply buffer
+pub record LentAsked (limit : ℕ → ℕ) (frame : List ℕ) (asked : Asked) : Type 0 where
+  pub passed : Passed limit asked
+  pub some : 4 ≤ length frame
+  pub most : length frame ≤ leastBuffer

@@ -1,0 +1,4 @@
+pub mod View
+pub mod Addresses
+pub mod Frames
+pub mod Lent
