@@ -1,13 +1,14 @@
 /*
- * windrow_gateway.h: the gateway's archive, for its firmware. Link libgateway.a.
+ * windrow_gateway.h: the gateway's archive and its answers to Modbus polls, for its firmware. Link libgateway.a.
  *
  * Every call but fresh takes the gateway's state and the archive memory, and answers a struct with the new state, which the next
  * call is given. `number` is the service card's: 0 is done, anything else a refusal, and then the state is the one given and the
  * archive is as it was. Nothing is allocated or kept. Any content of state and archive is answered: an archive of another length
  * than the state's by WINDROW_MEMORY (1), a state against the rules by WINDROW_FOREIGN (2), and then the call's own numbers, the
  * lowest first. Arguments that are judged come in 32 bits, so that none is cut before it is judged. Only a bool that is neither
- * 0 nor 1 must not be handed in, the pointers must not be null, even with a length of 0, and the archive must not overlap a table
- * that is handed in with it. Keep state and archive together: they may be stored, and handed back later as they were.
+ * 0 nor 1 must not be handed in, the pointers must not be null, even with a length of 0, and what a call writes, an archive or a
+ * reply buffer, must not overlap what else is handed in with it. Keep state and archive together: they may be stored, and handed
+ * back later as they were.
  */
 #ifndef WINDROW_GATEWAY_H
 #define WINDROW_GATEWAY_H
@@ -143,6 +144,40 @@ struct windrow_gateway_answer windrow_gateway_alarm(struct windrow_state state, 
  */
 struct windrow_gateway_answer windrow_gateway_scan(struct windrow_state state, uint8_t *archive, size_t archive_length,
                                                    const uint8_t *table, size_t table_length, struct windrow_stamp stamp);
+
+/* The least length of a poll's reply buffer. */
+#define WINDROW_LEAST_REPLY 256
+
+/* Exceptions: the third byte of a reply of 5 bytes, in which the function has its highest bit set. */
+#define WINDROW_ILLEGAL_FUNCTION 1
+#define WINDROW_ILLEGAL_ADDRESS 2
+#define WINDROW_ILLEGAL_VALUE 3
+
+struct windrow_poll_answer {
+    uint32_t number;
+    uint32_t length; /* the reply's, 0 for none; refused, 0 */
+    struct windrow_state state;
+};
+
+/*
+ * Answers a Modbus RTU frame, which may have any length, 0 and over 256 included. The reply is the first length bytes of the reply
+ * buffer, ready to be sent; the bytes past it stay as they were lent. There is none to a frame under 4 or over 256 bytes, with a
+ * wrong CRC or for another unit, and none to unit 0, for which a 06 is done all the same. For file f, 1-11:
+ *
+ *   03 on 700+f        the record with the requested number, whatever the quantity
+ *   03 on 720+f        the record whose number is the quantity
+ *   03 on 750+f        the stamp of the record with the requested number
+ *   03 on 770+f        the stamp of the record whose number is the quantity
+ *   03 on 3701-3733    registers, three a file: its limit, its pointer (the record captured last), its requested number
+ *   06 on 3703+3(f-1)  sets the requested number; the reply echoes the frame
+ *
+ * The exception is the first that applies: WINDROW_ILLEGAL_FUNCTION to another function; WINDROW_ILLEGAL_VALUE to a frame that is
+ * not of 8 bytes; WINDROW_ILLEGAL_ADDRESS to another address; WINDROW_ILLEGAL_VALUE where a record's number is not 1 to the file's
+ * limit, or 0 or over 33 registers are asked for; WINDROW_ILLEGAL_ADDRESS to registers past 3733. Only a 06 changes the state, and
+ * of it the requested number alone. Refused with 13 where the reply buffer has under WINDROW_LEAST_REPLY bytes; it stays as lent.
+ */
+struct windrow_poll_answer windrow_gateway_poll(struct windrow_state state, const uint8_t *archive, size_t archive_length,
+                                                const uint8_t *frame, size_t frame_length, uint8_t *reply, size_t reply_length);
 
 #ifdef __cplusplus
 }

@@ -1,7 +1,8 @@
 /*
- * A gateway's firmware in C: makes a gateway, defines a file, starts it, sets a trigger and an alarm slot, scans, and is refused
- * what the service card refuses; asserts the header's layout. Offsets and sizes are worked out by hand from C's rules for x86-64,
- * and the expected lines are written from document 01. The reader's header is included as well: both serve one file.
+ * A gateway's firmware in C: makes a gateway, defines a file, starts it, sets a trigger and an alarm slot, scans, polls, hands the
+ * replies to the reading end, and is refused what the service card refuses; asserts the header's layout. Offsets and sizes are
+ * worked out by hand from C's rules for x86-64, and the expected lines are written from document 01; CRCs, those of the requests
+ * below too, were worked out by the bit rule in Python. Both headers and both libraries serve one program.
  */
 #include <assert.h>
 #include <stdio.h>
@@ -18,9 +19,12 @@
 #define RECORD 14
 #define ALARM 22
 
+#define LENT 0xA5 /* what a reply buffer holds as it is lent */
+
 static uint8_t archive[ROOMY + 1];
 static uint8_t records[TWO_RECORDS];
 static uint8_t live[1424];
+static uint8_t reply[WINDROW_LEAST_REPLY + 44];
 
 static const uint16_t bare_stamp[32] = {0};
 static const uint16_t fine[32] = {7101, 61};                  /* 6 + 61 x 4 = 250 bytes */
@@ -92,6 +96,12 @@ static void check_layout(void)
     AT(windrow_gateway_answer, number, 0);
     AT(windrow_gateway_answer, carried, 4);
     AT(windrow_gateway_answer, state, 8);
+
+    WHOLE(windrow_poll_answer, 1612, FIELD(windrow_poll_answer, number) + FIELD(windrow_poll_answer, length)
+          + FIELD(windrow_poll_answer, state));
+    AT(windrow_poll_answer, number, 0);
+    AT(windrow_poll_answer, length, 4);
+    AT(windrow_poll_answer, state, 8);
 }
 
 /* Prints what a call answered and hands on its state. */
@@ -233,12 +243,17 @@ static struct windrow_state scan(const char *when, struct windrow_state s, uint8
     return s;
 }
 
+static void show_bytes(const uint8_t *bytes, size_t length)
+{
+    for (size_t i = 0; i < length; i++)
+        printf(" %02X", bytes[i]);
+    printf("\n");
+}
+
 static void show(const char *what, size_t place, size_t length)
 {
     printf("%s:", what);
-    for (size_t i = 0; i < length; i++)
-        printf(" %02X", records[place + i]);
-    printf("\n");
+    show_bytes(records + place, length);
 }
 
 /* A gateway whose file 1 keeps two records, one a rise of 1803; its alarm slots are on 1811, rises only, and 1803, any change. */
@@ -293,7 +308,7 @@ static struct windrow_state raised_while_stopped(struct windrow_state s)
     return scan("still on", s, 11, 55);
 }
 
-static void round_again(struct windrow_state s)
+static struct windrow_state round_again(struct windrow_state s)
 {
     now(false, true, 8);
     s = scan("off", s, 11, 57);
@@ -308,14 +323,118 @@ static void round_again(struct windrow_state s)
     size_t end = 2 * RECORD + 8 * ALARM;
     show("alarm 8", end - ALARM, ALARM);
     printf("filled bytes past alarm 8: %u\n", filled_of(records + end, sizeof records - end));
+    return s;
 }
 
-static void scans(void)
+static struct windrow_state scans(void)
 {
     fill_live();
     struct windrow_state s = first_rise(watching());
     refused_scans(s);
-    round_again(raised_while_stopped(s));
+    return round_again(raised_while_stopped(s));
+}
+
+/* A frame's bytes and their number, as two arguments. */
+#define FRAME(...) (const uint8_t[]){__VA_ARGS__}, sizeof((const uint8_t[]){__VA_ARGS__})
+
+/* Prints the reply to a frame and the requested number of file 1, and hands on the state. No other byte of the buffer changes. */
+static struct windrow_state poll(const char *what, struct windrow_state s, const uint8_t *frame, size_t length)
+{
+    memset(reply, LENT, sizeof reply);
+    struct windrow_poll_answer a = windrow_gateway_poll(s, records, sizeof records, frame, length, reply, sizeof reply);
+    assert(a.number == WINDROW_DONE && a.length <= sizeof reply);
+    for (size_t i = a.length; i < sizeof reply; i++)
+        assert(reply[i] == LENT);
+    printf("%s, requested %u:", what, a.state.line.requested[0]);
+    show_bytes(reply, a.length);
+    return a.state;
+}
+
+static void print_stamp(const uint16_t groups[32], size_t length)
+{
+    struct windrow_stamp_answer when = windrow_reader_stamp(groups, 32, false, reply, length);
+    assert(when.number == WINDROW_DONE);
+    printf("read back: %u/%u/%02u %02u:%02u:%02u", when.stamp.day, when.stamp.month, when.stamp.year, when.stamp.hour,
+           when.stamp.minute, when.stamp.second);
+}
+
+static uint32_t bits_of(uint32_t g, uint32_t e)
+{
+    struct windrow_point point = windrow_reader_point(watched, 32, false, reply, RECORD + 5, g, e);
+    assert(point.number == WINDROW_DONE);
+    return point.bits;
+}
+
+/* The reply through the reading end: the stamp, points 1803-1811, 3001 and 5101. */
+static void read_back(void)
+{
+    print_stamp(watched, RECORD + 5);
+    printf(", flags ");
+    for (uint32_t e = 1; e <= 9; e++)
+        printf("%u", bits_of(1, e));
+    printf(", value %d, passes %d\n", (int)(int32_t)bits_of(2, 1), (int)(int32_t)bits_of(3, 1));
+}
+
+static struct windrow_state polls(struct windrow_state s)
+{
+    s = poll("registers of file 1", s, FRAME(0x11, 0x03, 0x0E, 0x75, 0x00, 0x03, 0x14, 0x69));
+    s = poll("registers of the alarm file", s, FRAME(0x11, 0x03, 0x0E, 0x93, 0x00, 0x03, 0xF5, 0x9E));
+    s = poll("record 2 by number", s, FRAME(0x11, 0x03, 0x02, 0xD1, 0x00, 0x02, 0x97, 0x1A));
+    read_back();
+    s = poll("stamp 2 by number", s, FRAME(0x11, 0x03, 0x03, 0x03, 0x00, 0x02, 0x36, 0xDF));
+    print_stamp(bare_stamp, 6 + 5);
+    printf("\n");
+    s = poll("record requested before any is", s, FRAME(0x11, 0x03, 0x02, 0xBD, 0x00, 0x00, 0xD6, 0xC6));
+    s = poll("request record 1", s, FRAME(0x11, 0x06, 0x0E, 0x77, 0x00, 0x01, 0xF8, 0x68));
+    s = poll("record requested", s, FRAME(0x11, 0x03, 0x02, 0xBD, 0x00, 0x00, 0xD6, 0xC6));
+    read_back();
+    s = poll("stamp requested", s, FRAME(0x11, 0x03, 0x02, 0xEF, 0x00, 0x00, 0x77, 0x17));
+    print_stamp(bare_stamp, 6 + 5);
+    printf("\n");
+    return poll("alarm 8 by number", s, FRAME(0x11, 0x03, 0x02, 0xDB, 0x00, 0x08, 0x37, 0x1F));
+}
+
+static struct windrow_state exceptions(struct windrow_state s)
+{
+    s = poll("function 04", s, FRAME(0x11, 0x04, 0x02, 0xD1, 0x00, 0x02, 0x22, 0xDA));
+    assert(reply[2] == WINDROW_ILLEGAL_FUNCTION);
+    s = poll("nine bytes on address 712", s, FRAME(0x11, 0x03, 0x02, 0xC8, 0x00, 0x01, 0x00, 0x5C, 0x02));
+    assert(reply[2] == WINDROW_ILLEGAL_VALUE);
+    s = poll("address 712", s, FRAME(0x11, 0x03, 0x02, 0xC8, 0x00, 0x01, 0x06, 0xDC));
+    assert(reply[2] == WINDROW_ILLEGAL_ADDRESS);
+    s = poll("record 3 of 2", s, FRAME(0x11, 0x03, 0x02, 0xD1, 0x00, 0x03, 0x56, 0xDA));
+    s = poll("34 registers", s, FRAME(0x11, 0x03, 0x0E, 0x75, 0x00, 0x22, 0xD4, 0x71));
+    s = poll("2 registers from the last on", s, FRAME(0x11, 0x03, 0x0E, 0x95, 0x00, 0x02, 0xD4, 0x5F));
+    s = poll("request record 3 of 2", s, FRAME(0x11, 0x06, 0x0E, 0x77, 0x00, 0x03, 0x79, 0xA9));
+    return poll("write a pointer", s, FRAME(0x11, 0x06, 0x0E, 0x76, 0x00, 0x01, 0xA9, 0xA8));
+}
+
+static struct windrow_state unanswered(struct windrow_state s)
+{
+    s = poll("unit 0 requests record 2", s, FRAME(0x00, 0x06, 0x0E, 0x77, 0x00, 0x02, 0xBB, 0x28));
+    s = poll("unit 18 requests record 1", s, FRAME(0x12, 0x06, 0x0E, 0x77, 0x00, 0x01, 0xF8, 0x5B));
+    s = poll("a wrong CRC", s, FRAME(0x11, 0x06, 0x0E, 0x77, 0x00, 0x01, 0xF8, 0x69));
+    return poll("no bytes", s, live, 0);
+}
+
+/* A 06 that is refused leaves the requested number and the reply buffer alone. */
+static void refuse_poll(const char *what, struct windrow_state s, size_t archive_length, size_t reply_length)
+{
+    static const uint8_t request_1[] = {0x11, 0x06, 0x0E, 0x77, 0x00, 0x01, 0xF8, 0x68};
+    memset(reply, LENT, sizeof reply);
+    struct windrow_poll_answer a =
+        windrow_gateway_poll(s, records, archive_length, request_1, sizeof request_1, reply, reply_length);
+    for (size_t i = 0; i < sizeof reply; i++)
+        assert(reply[i] == LENT);
+    printf("%s: %u, length %u, the state as before %d\n", what, a.number, a.length, memcmp(&a.state, &s, sizeof s) == 0);
+}
+
+static void refused_polls(struct windrow_state s)
+{
+    refuse_poll("poll into a byte less", s, sizeof records, WINDROW_LEAST_REPLY - 1);
+    refuse_poll("poll over a byte less too", s, sizeof records - 1, WINDROW_LEAST_REPLY - 1);
+    s.line.requested[0] = 3;
+    refuse_poll("poll of a damaged state", s, sizeof records, WINDROW_LEAST_REPLY - 1);
 }
 
 int main(void)
@@ -324,6 +443,6 @@ int main(void)
     stopped_and_damaged(trigger_and_slot(one_bare_stamp()));
     no_room();
     refused_fresh();
-    scans();
+    refused_polls(unanswered(exceptions(polls(scans()))));
     return 0;
 }

@@ -26,7 +26,10 @@ static struct windrow_gateway_answer answer;
 static const struct windrow_stamp stamp = {8, 29, 7, 11, 36, 52};
 static const uint16_t floats[32] = {7101, 61};
 
-static uint8_t frame[255];
+static uint8_t request[8];
+static uint8_t frame[WINDROW_LEAST_REPLY]; /* the reply to a poll */
+static struct windrow_poll_answer polled;
+
 static struct windrow_part part;
 static struct windrow_stamp_answer when;
 static struct windrow_point point;
@@ -41,10 +44,14 @@ static void define(void) { answer = windrow_gateway_define(state, archive, sizeo
 static void trigger(void) { answer = windrow_gateway_trigger(state, archive, sizeof archive, 10, 1810); }
 static void alarm(void) { answer = windrow_gateway_alarm(state, archive, sizeof archive, 32, 1928, 0, 7228); }
 static void scan(void) { answer = windrow_gateway_scan(state, archive, sizeof archive, live, sizeof live, stamp); }
-static void record(void) { part = windrow_reader_record(floats, 32, false, frame, sizeof frame); }
-static void stamped(void) { when = windrow_reader_stamp(floats, 32, false, frame, sizeof frame); }
-static void stretch(void) { part = windrow_reader_stretch(floats, 32, false, frame, sizeof frame, 1); }
-static void decode(void) { point = windrow_reader_point(floats, 32, false, frame, sizeof frame, 1, 61); }
+static void poll(void)
+{
+    polled = windrow_gateway_poll(state, archive, sizeof archive, request, sizeof request, frame, sizeof frame);
+}
+static void record(void) { part = windrow_reader_record(floats, 32, false, frame, polled.length); }
+static void stamped(void) { when = windrow_reader_stamp(floats, 32, false, frame, polled.length); }
+static void stretch(void) { part = windrow_reader_stretch(floats, 32, false, frame, polled.length, 1); }
+static void decode(void) { point = windrow_reader_point(floats, 32, false, frame, polled.length, 1, 61); }
 
 static void (*work)(void);
 
@@ -132,16 +139,38 @@ static unsigned crc_of(const uint8_t *bytes, size_t length)
     return crc;
 }
 
-/* The record that the scan captured, in a reply. */
+/* A poll whose reply has this length; the state goes on to the next. */
+static void ask(const char *name, uint8_t function, unsigned address, unsigned number, uint32_t length)
+{
+    request[0] = 17;
+    request[1] = function;
+    request[2] = (uint8_t)(address >> 8);
+    request[3] = (uint8_t)(address & 0xFF);
+    request[4] = (uint8_t)(number >> 8);
+    request[5] = (uint8_t)(number & 0xFF);
+    unsigned crc = crc_of(request, 6);
+    request[6] = (uint8_t)(crc & 0xFF);
+    request[7] = (uint8_t)(crc >> 8);
+    measure(name, poll, &polled.number);
+    if (polled.length != length) {
+        printf("FAILED: %s has a reply of %u bytes\n", name, (unsigned)polled.length);
+        failures++;
+    }
+    state = polled.state;
+}
+
+/* Ends with the reply that carries record 1 of file 1, as the scan captured it. */
+static void polls(void)
+{
+    ask("poll of 33 registers", 3, 3701, 33, 71);
+    ask("poll that is an exception", 4, 721, 1, 5);
+    ask("poll that sets a requested number", 6, 3703, 1, 8);
+    ask("poll of a record by number", 3, 721, 1, 255);
+    ask("poll of a record requested", 3, 701, 0, 255);
+}
+
 static void reader(void)
 {
-    frame[0] = 17;
-    frame[1] = 3;
-    frame[2] = 250;
-    memcpy(frame + 3, archive, 250);
-    unsigned crc = crc_of(frame, 253);
-    frame[253] = (uint8_t)(crc & 0xFF);
-    frame[254] = (uint8_t)(crc >> 8);
     measure("reader's record", record, &part.number);
     measure("reader's stamp", stamped, &when.number);
     measure("reader's stretch", stretch, &part.number);
@@ -151,6 +180,7 @@ static void reader(void)
 int main(void)
 {
     gateway();
+    polls();
     reader();
     return failures != 0;
 }

@@ -11,19 +11,19 @@ use model::record::AUGUST;
 use reader::random::Random;
 
 use crate::expert::gateway;
-use crate::{best, report};
+use crate::{best, report, Times};
 
-const CALLS: u32 = 20_000;
+pub const CALLS: u32 = 20_000;
 const RECORDS_A_FILE: u16 = 10;
 /// Ten files of 250-byte records, and the alarm file.
-const ARCHIVE: usize = 10 * 250 * RECORDS_A_FILE as usize + 11_000;
+pub const ARCHIVE: usize = 10 * 250 * RECORDS_A_FILE as usize + 11_000;
 
 /// The triggers of files 1 to 10 are the first ten Booleans, and the points of slots 32 to 1 are the last 32.
 const TRIGGERS: u128 = 0x3FF;
 const SLOT_POINTS: u128 = 0xFFFF_FFFF << 96;
 
 /// A running gateway that remembers Booleans which are all off.
-fn watching() -> State {
+pub fn watching() -> State {
     let mut s = ZEROS;
     s.site.archive_length = ARCHIVE as u32;
     s.site.unit = 1;
@@ -80,7 +80,7 @@ fn scan(name: &str, booleans: u128, files: usize, alarms: u16) {
     report(name, CALLS, proved, plain);
 }
 
-fn lock() {
+fn lock() -> Times {
     let mut s = watching();
     let mut archive = vec![0; ARCHIVE];
     let proved = best(|| {
@@ -93,7 +93,7 @@ fn lock() {
             black_box(gateway::lock(black_box(&mut s), black_box(&archive)));
         }
     });
-    report("a Lock", CALLS, proved, plain);
+    Times { proved, plain }
 }
 
 /// A call by value that only hands the state back.
@@ -113,10 +113,13 @@ fn by_value() {
     println!("of which the state by value, in and out: {:.1} ns", time.as_secs_f64() * 1e9 / f64::from(CALLS));
 }
 
-pub fn calls() {
-    lock();
+/// Answers what the Lock took, most of which is judging the state.
+pub fn calls() -> Times {
+    let lock = lock();
+    lock.report("a Lock", CALLS);
     by_value();
     scan("a scan with no change", 0, 0, 0);
     scan("a scan that captures ten files of 250 bytes", TRIGGERS, 10, 0);
     scan("a scan that logs 32 alarms", SLOT_POINTS, 0, 32);
+    lock
 }

@@ -3,6 +3,7 @@
 
 mod calls;
 mod expert;
+mod polls;
 
 use std::hint::black_box;
 use std::io::Write;
@@ -10,6 +11,7 @@ use std::process::{Command, Stdio};
 use std::time::{Duration, Instant};
 
 use expert::records::{stamp_bytes, write_record};
+use model::frames::read_reply;
 use model::points::{groups_from_first_place, record_size};
 use model::record::{captured_record, AUGUST};
 use reader::{ffi, random};
@@ -74,6 +76,23 @@ fn records(name: &str, case: &str, groups: [u16; 32]) {
     report(name, RECORDS, proved, plain);
 }
 
+/// What so many calls took, the library's and the expert's.
+struct Times {
+    proved: Duration,
+    plain: Duration,
+}
+
+impl Times {
+    /// What is left on either side when that much is taken off.
+    fn less(&self, part: &Times) -> Times {
+        Times { proved: self.proved.saturating_sub(part.proved), plain: self.plain.saturating_sub(part.plain) }
+    }
+
+    fn report(&self, name: &str, calls: u32) {
+        report(name, calls, self.proved, self.plain);
+    }
+}
+
 /// Prints a row: the time of one of so many calls on either side, and the ratio.
 fn report(name: &str, calls: u32, proved: Duration, plain: Duration) {
     let nanoseconds = |time: Duration| time.as_secs_f64() * 1e9 / f64::from(calls);
@@ -85,7 +104,7 @@ fn report(name: &str, calls: u32, proved: Duration, plain: Duration) {
 fn decoding() {
     let groups = groups_from_first_place(&[(7101, 61)]);
     let table = random::Random::new(1).bytes(1424);
-    let frame = random::reply(1, &captured_record(&groups, &table, AUGUST, false));
+    let frame = read_reply(1, &captured_record(&groups, &table, AUGUST, false));
     let proved = best(|| {
         for _ in 0..DECODES {
             for e in 1..=61 {
@@ -107,5 +126,6 @@ fn main() {
     records("250-byte record of 61 floats written", "f", groups_from_first_place(&[(7101, 61)]));
     records("record of 127 Booleans from 1802 written", "b", groups_from_first_place(&[(1802, 127)]));
     decoding();
-    calls::calls();
+    let lock = calls::calls();
+    polls::polls(&lock);
 }

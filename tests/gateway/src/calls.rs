@@ -1,14 +1,17 @@
 //! The calls after Fresh: random ones, on the library and on the model.
 
-use gateway::ffi::{self, Answer, State};
+use gateway::ffi::{self, Answer, PollAnswer, State};
+use gateway::frames::{any_frame, any_room, Frame};
 use gateway::states::{any_groups, boolean_or_none, definitions_of, float_or_none, limit_near, no_boolean, no_float};
 use model::card::Answer as Told;
 use model::foreign::slot_entry_is_good;
-use model::machine::Machine;
+use model::frames::request;
+use model::machine::{Machine, LEAST_REPLY};
 use model::points::is_boolean_or_none;
 use model::record::Stamp;
 use reader::random::Random;
 
+use crate::lent::{Buffer, Lent};
 use crate::scans::{self, Table};
 
 #[derive(Clone, Debug, PartialEq, Eq)]
@@ -17,15 +20,55 @@ pub enum Call {
     Lock,
     Stop,
     Start,
-    Define { file: u32, groups: [u16; 32], limit: u16 },
-    Trigger { file: u32, point: u32 },
-    Alarm { slot: u32, point: u32, kind: u32, transducer: u32 },
-    Scan { table: Table, stamp: Stamp },
+    Define {
+        file: u32,
+        groups: [u16; 32],
+        limit: u16,
+    },
+    Trigger {
+        file: u32,
+        point: u32,
+    },
+    Alarm {
+        slot: u32,
+        point: u32,
+        kind: u32,
+        transducer: u32,
+    },
+    Scan {
+        table: Table,
+        stamp: Stamp,
+    },
+    /// `room` is the reply buffer's length.
+    Poll {
+        frame: Frame,
+        room: usize,
+    },
 }
 
 /// The calls by their kinds, and Fresh, with which a list starts.
-pub const NAMES: [&str; 9] = ["unlock", "lock", "stop", "start", "define", "trigger", "alarm", "scan", "fresh"];
-pub const FRESH: usize = 8;
+pub const NAMES: [&str; 10] = ["unlock", "lock", "stop", "start", "define", "trigger", "alarm", "scan", "poll", "fresh"];
+pub const FRESH: usize = 9;
+
+/// What the library answers: the card's number and what it carries, the length of a poll's reply, and the state.
+pub struct Got {
+    pub number: u32,
+    pub carried: u32,
+    pub length: u32,
+    pub state: State,
+}
+
+impl From<Answer> for Got {
+    fn from(a: Answer) -> Got {
+        Got { number: a.number, carried: a.carried, length: 0, state: a.state }
+    }
+}
+
+impl From<PollAnswer> for Got {
+    fn from(a: PollAnswer) -> Got {
+        Got { number: a.number, carried: 0, length: a.length, state: a.state }
+    }
+}
 
 /// Mostly 1 to `most`, now and then a neighbour or a number that is in range only when cut to 8 or 16 bits.
 fn index(random: &mut Random, most: u32) -> u32 {
@@ -69,7 +112,7 @@ impl Call {
     /// A random call; a definition's n is near what the state's archive holds.
     pub fn random(random: &mut Random, s: &State) -> Call {
         // an unlocked gateway is there to be defined
-        let choice = if s.flags.unlocked && random.chance(3) { 9 } else { random.below(32) };
+        let choice = if s.flags.unlocked && random.chance(3) { 9 } else { random.below(48) };
         match choice {
             0..=2 => Call::Unlock,
             3 => Call::Lock,
@@ -83,7 +126,8 @@ impl Call {
                 kind: any_type(random),
                 transducer: mostly(random, float_or_none, no_float),
             },
-            _ => Call::scan(random, s),
+            20..=31 => Call::scan(random, s),
+            _ => Call::poll(random, s),
         }
     }
 
@@ -105,6 +149,16 @@ impl Call {
         Call::Scan { table: scans::table(random, s), stamp: scans::stamp(random) }
     }
 
+    /// A poll of a gateway in this state.
+    pub fn poll(random: &mut Random, s: &State) -> Call {
+        Call::Poll { frame: any_frame(random, s), room: any_room(random) }
+    }
+
+    /// The poll of a right request, with as short a reply buffer as may be.
+    pub fn asking(unit: u8, function: u8, address: u16, number: u16) -> Call {
+        Call::Poll { frame: Frame(request(unit, function, address, number)), room: LEAST_REPLY }
+    }
+
     /// The call's place in NAMES.
     pub fn kind(&self) -> usize {
         match self {
@@ -116,6 +170,15 @@ impl Call {
             Call::Trigger { .. } => 5,
             Call::Alarm { .. } => 6,
             Call::Scan { .. } => 7,
+            Call::Poll { .. } => 8,
+        }
+    }
+
+    /// The length of the reply buffer that the call is lent.
+    pub fn room(&self) -> usize {
+        match self {
+            Call::Poll { room, .. } => *room,
+            _ => 0,
         }
     }
 
@@ -137,21 +200,25 @@ impl Call {
         }
     }
 
-    pub fn on_library(&mut self, s: State, archive: &mut [u8]) -> Answer {
+    pub fn on_library(&mut self, s: State, lent: &mut Lent) -> Got {
+        let archive = &mut lent.archive;
         match self {
-            Call::Unlock => ffi::unlock(s, archive),
-            Call::Lock => ffi::lock(s, archive),
-            Call::Stop => ffi::stop(s, archive),
-            Call::Start => ffi::start(s, archive),
-            Call::Define { file, groups, limit } => ffi::define(s, archive, *file, groups, *limit),
-            Call::Trigger { file, point } => ffi::trigger(s, archive, *file, *point),
-            Call::Alarm { slot, point, kind, transducer } => ffi::alarm(s, archive, *slot, *point, *kind, *transducer),
-            Call::Scan { table, stamp } => ffi::scan(s, archive, &mut table.0, (*stamp).into()),
+            Call::Unlock => ffi::unlock(s, archive).into(),
+            Call::Lock => ffi::lock(s, archive).into(),
+            Call::Stop => ffi::stop(s, archive).into(),
+            Call::Start => ffi::start(s, archive).into(),
+            Call::Define { file, groups, limit } => ffi::define(s, archive, *file, groups, *limit).into(),
+            Call::Trigger { file, point } => ffi::trigger(s, archive, *file, *point).into(),
+            Call::Alarm { slot, point, kind, transducer } => ffi::alarm(s, archive, *slot, *point, *kind, *transducer).into(),
+            Call::Scan { table, stamp } => ffi::scan(s, archive, &mut table.0, (*stamp).into()).into(),
+            Call::Poll { frame, .. } => ffi::poll(s, archive, &mut frame.0, lent.reply.lent_mut()).into(),
         }
     }
 
-    pub fn on_model(&self, machine: &mut Machine, archive_len: usize) -> Told {
-        match self {
+    /// What the model answers, with the length of a poll's reply.
+    pub fn on_model(&self, machine: &mut Machine, archive_len: usize, reply: &mut Buffer) -> (Told, usize) {
+        let told = match self {
+            Call::Poll { frame, .. } => return machine.poll(archive_len, &frame.0, reply.lent_mut()),
             Call::Unlock => machine.unlock(archive_len),
             Call::Lock => machine.lock(archive_len),
             Call::Stop => machine.stop(archive_len),
@@ -162,6 +229,7 @@ impl Call {
                 machine.alarm(archive_len, *slot as usize, *point, *kind, *transducer)
             }
             Call::Scan { table, stamp } => machine.scan(archive_len, &table.0, *stamp),
-        }
+        };
+        (told, 0)
     }
 }

@@ -1,65 +1,100 @@
 //! What the model wants of a call, and what the library made of it.
 
-use gateway::ffi::{Answer, State};
+use gateway::ffi::State;
 use gateway::states::{differences, raw_of, remembered_of, state_of};
 use model::card::{Answer as Told, Refusal, FOREIGN, MEMORY};
 use model::foreign::foreign;
 use model::machine::Machine;
 
-use crate::calls::Call;
+use crate::calls::{Call, Got};
+use crate::lent::{Lent, MARGIN};
 
-/// What is wanted of a call: the answer, the state, and the archive's bytes.
+/// What is wanted of a call: the answer, the reply's length, the state, and the bytes of all that was lent.
 pub struct Wanted {
     pub told: Told,
+    pub length: usize,
     pub state: State,
-    pub archive: Vec<u8>,
+    pub lent: Lent,
+}
+
+impl Wanted {
+    /// The reply of a poll; none where there is none, and of any other call.
+    pub fn reply(&self) -> &[u8] {
+        &self.lent.reply.lent()[..self.length]
+    }
 }
 
 /// A call on a machine that the list goes on with, lent its archive or bytes of another length.
-pub fn wanted_of_machine(machine: &mut Machine, s: &State, call: &Call, lent: &[u8]) -> Wanted {
-    let told = call.on_model(machine, lent.len());
-    let writes = told.is_done() && matches!(call, Call::Start | Call::Scan { .. });
-    let archive = if writes { machine.archive_memory() } else { lent.to_vec() };
-    Wanted { told, state: state_of(&machine.raw_state(), machine.remembered(), s), archive }
+pub fn wanted_of_machine(machine: &mut Machine, s: &State, call: &Call, lent: &Lent) -> Wanted {
+    let mut lent = lent.clone();
+    let (told, length) = call.on_model(machine, lent.archive.len(), &mut lent.reply);
+    if told.is_done() && matches!(call, Call::Start | Call::Scan { .. }) {
+        lent.archive = machine.archive_memory();
+    }
+    Wanted { told, length, state: state_of(&machine.raw_state(), machine.remembered(), s), lent }
 }
 
 /// A call on a state of which nothing is known: rows 1 and 2 of the card, else the machine that stands so.
-pub fn wanted_of_state(s: &State, call: &Call, lent: &[u8]) -> Wanted {
+pub fn wanted_of_state(s: &State, call: &Call, lent: &Lent) -> Wanted {
     let raw = raw_of(s);
-    let refused = |number| Wanted { told: Err(Refusal::plain(number)).into(), state: *s, archive: lent.to_vec() };
-    if lent.len() != raw.archive_len as usize {
+    let refused = |number| Wanted { told: Err(Refusal::plain(number)).into(), length: 0, state: *s, lent: lent.clone() };
+    if lent.archive.len() != raw.archive_len as usize {
         refused(MEMORY)
     } else if foreign(&raw) {
         refused(FOREIGN)
     } else {
-        wanted_of_machine(&mut Machine::standing(&raw, remembered_of(s), lent), s, call, lent)
+        wanted_of_machine(&mut Machine::standing(&raw, remembered_of(s), &lent.archive), s, call, lent)
     }
 }
 
 /// Hands a call to the library: what it answers and leaves is as wanted, and what it was lent only to read is as it was; else what
 /// differs.
-pub fn agree(wanted: &Wanted, s: &State, call: &Call, lent: &[u8]) -> Result<(), String> {
-    let (mut handed_in, mut archive) = (call.clone(), lent.to_vec());
-    let got = handed_in.on_library(*s, &mut archive);
+pub fn agree(wanted: &Wanted, s: &State, call: &Call, lent: &Lent) -> Result<(), String> {
+    let (mut handed_in, mut left) = (call.clone(), lent.clone());
+    let got = handed_in.on_library(*s, &mut left);
     if handed_in != *call {
         return Err(format!("what is only read was changed, to {handed_in:?}"));
     }
-    compare(wanted, &got, &archive)
+    compare(wanted, &got, &left)
 }
 
 /// The answer, the state and the bytes are those wanted; else what differs.
-pub fn compare(wanted: &Wanted, got: &Answer, archive: &[u8]) -> Result<(), String> {
-    let (number, carried) = (u32::from(wanted.told.number), u32::from(wanted.told.carried));
-    if (got.number, got.carried) != (number, carried) {
-        return Err(format!("wanted {number} carrying {carried}, got {} carrying {}", got.number, got.carried));
+pub fn compare(wanted: &Wanted, got: &Got, left: &Lent) -> Result<(), String> {
+    compare_answer(&wanted.told, wanted.length, &wanted.state, got).map_err(|text| {
+        let begins = left.reply.lent().iter().take(8).collect::<Vec<_>>();
+        format!("{text}\nreply wanted {:02x?}, got {begins:02x?}", wanted.reply())
+    })?;
+    let number = got.number;
+    if let Some(text) = first_difference(left.reply.with_margins(), wanted.lent.reply.with_margins()) {
+        return Err(format!("answer {number} and state as wanted; from {MARGIN} bytes before the reply buffer on, {text}"));
     }
-    if got.state != wanted.state {
-        return Err(format!("answer {number} as wanted; the state differs:{}", differences(&wanted.state, &got.state)));
+    match first_difference(&left.archive, &wanted.lent.archive) {
+        Some(text) => Err(format!("answer {number} and state as wanted; archive: {text}")),
+        None => Ok(()),
     }
-    if archive == wanted.archive {
-        return Ok(());
+}
+
+/// The number with what it carries, the reply's length and the state are those wanted; else what differs.
+pub fn compare_answer(told: &Told, length: usize, state: &State, got: &Got) -> Result<(), String> {
+    let wanted = (u32::from(told.number), u32::from(told.carried), length as u32);
+    if (got.number, got.carried, got.length) != wanted {
+        let (number, carried, length) = wanted;
+        return Err(format!(
+            "wanted {number} carrying {carried} and a reply of {length} bytes, got {} carrying {} and {} bytes",
+            got.number, got.carried, got.length
+        ));
     }
-    let at = archive.iter().zip(&wanted.archive).position(|(a, b)| a != b).unwrap();
-    let (byte, right) = (archive[at], wanted.archive[at]);
-    Err(format!("answer {number} and state as wanted; archive byte {at} is {byte} and should be {right}"))
+    if got.state != *state {
+        return Err(format!("answer {} as wanted; the state differs:{}", got.number, differences(state, &got.state)));
+    }
+    Ok(())
+}
+
+/// The first byte in which bytes of the same number differ.
+fn first_difference(got: &[u8], wanted: &[u8]) -> Option<String> {
+    if got == wanted {
+        return None;
+    }
+    let at = got.iter().zip(wanted).position(|(a, b)| a != b)?;
+    Some(format!("byte {at} is {} and should be {}", got[at], wanted[at]))
 }

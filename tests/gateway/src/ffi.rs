@@ -82,6 +82,15 @@ pub struct Answer {
     pub state: State,
 }
 
+/// What a poll answers; `length` is the reply's, 0 for none.
+#[repr(C)]
+#[derive(Clone, Copy, Debug, PartialEq, Eq)]
+pub struct PollAnswer {
+    pub number: u32,
+    pub length: u32,
+    pub state: State,
+}
+
 #[link(name = "gateway", kind = "static")]
 extern "C" {
     fn windrow_gateway_fresh(day_first: bool, unit: u32, archive: *mut u8, len: usize) -> Answer;
@@ -102,14 +111,23 @@ extern "C" {
     ) -> Answer;
     fn windrow_gateway_scan(s: State, archive: *mut u8, len: usize, table: *const u8, table_len: usize, stamp: Stamp)
         -> Answer;
+    fn windrow_gateway_poll(
+        s: State,
+        archive: *const u8,
+        len: usize,
+        frame: *const u8,
+        frame_len: usize,
+        reply: *mut u8,
+        reply_len: usize,
+    ) -> PollAnswer;
 }
 
 pub fn fresh(day_first: bool, unit: u32, archive: &mut [u8]) -> Answer {
     unsafe { windrow_gateway_fresh(day_first, unit, archive.as_mut_ptr(), archive.len()) }
 }
 
-// What a call only reads, as the archive of most calls, the groups and the live table, it is lent to write as well, so that a byte
-// written would be seen.
+// What a call only reads, as the archive of most calls, the groups, the live table and the frame, it is lent to write as well, so
+// that a byte written would be seen.
 
 pub fn unlock(s: State, archive: &mut [u8]) -> Answer {
     unsafe { windrow_gateway_unlock(s, archive.as_mut_ptr(), archive.len()) }
@@ -141,4 +159,10 @@ pub fn alarm(s: State, archive: &mut [u8], slot: u32, point: u32, kind: u32, tra
 
 pub fn scan(s: State, archive: &mut [u8], table: &mut [u8], stamp: Stamp) -> Answer {
     unsafe { windrow_gateway_scan(s, archive.as_mut_ptr(), archive.len(), table.as_mut_ptr(), table.len(), stamp) }
+}
+
+pub fn poll(s: State, archive: &mut [u8], frame: &mut [u8], reply: &mut [u8]) -> PollAnswer {
+    let (archive_len, frame_len, reply_len) = (archive.len(), frame.len(), reply.len());
+    let (archive, frame, reply) = (archive.as_mut_ptr(), frame.as_mut_ptr(), reply.as_mut_ptr());
+    unsafe { windrow_gateway_poll(s, archive, archive_len, frame, frame_len, reply, reply_len) }
 }

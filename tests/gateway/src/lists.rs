@@ -1,4 +1,4 @@
-//! A list of calls that the library and the model both go through, and the lists of 60 random calls.
+//! A list of calls that the library and the model both go through, and the short lists of random calls.
 
 use gateway::ffi::{self, State};
 use gateway::states::{archive_length, damage, raw_of, remembered_of, standing, state_of, CLAUSES, ZEROS};
@@ -9,12 +9,15 @@ use model::machine::Machine;
 use reader::random::Random;
 
 use crate::calls::{wide, Call, FRESH, WIDE_UNIT};
-use crate::compare::{agree, compare, wanted_of_machine, wanted_of_state, Wanted};
+use crate::compare::{agree, compare, compare_answer, wanted_of_machine, wanted_of_state, Wanted};
+use crate::lent::{Buffer, Lent};
+use crate::origins::Origins;
+use crate::poll_sights::PollSight;
 use crate::sights::{Captured, History, Sight};
 use crate::tally::Tally;
 
 /// The calls of a short list.
-pub const CALLS: usize = 60;
+pub const CALLS: usize = 90;
 /// As good as never, where one in so many is asked for.
 pub const NEVER: u64 = u64::MAX;
 
@@ -24,6 +27,7 @@ pub struct List {
     pub state: State,
     archive: Vec<u8>,
     history: History,
+    origins: Origins,
 }
 
 /// How many captures each file has had.
@@ -53,58 +57,100 @@ fn lent_length(random: &mut Random, right: usize, one_in: u64) -> usize {
     }
 }
 
-/// The archive as it is lent: its own bytes where they reach, random ones past them.
-fn lent(random: &mut Random, archive: &[u8], length: usize) -> Vec<u8> {
-    let mut bytes = archive[..length.min(archive.len())].to_vec();
-    let more = length - bytes.len();
-    bytes.extend(random.bytes(more));
-    bytes
-}
-
 impl List {
     /// Fresh over random bytes.
     pub fn fresh(random: &mut Random, tally: &mut Tally, length: usize, unit: u32) -> Result<List, String> {
         let day_first = random.chance(2);
-        let mut archive = random.bytes(length);
+        let mut lent = Lent { archive: random.bytes(length), reply: Buffer::none() };
         let (told, machine) = Machine::fresh(length, day_first, unit);
-        let left = if told.is_done() { machine.archive_memory() } else { archive.clone() };
-        let wanted = Wanted { told, state: state_of(&machine.raw_state(), None, &ZEROS), archive: left };
-        let got = ffi::fresh(day_first, unit, &mut archive);
+        let mut left = lent.clone();
+        if told.is_done() {
+            left.archive = machine.archive_memory();
+        }
+        let wanted = Wanted { told, length: 0, state: state_of(&machine.raw_state(), None, &ZEROS), lent: left };
+        let got = ffi::fresh(day_first, unit, &mut lent.archive).into();
         tally.answers[FRESH][told.number as usize] += 1;
         tally.wide[WIDE_UNIT] += u32::from(told.number == FOREIGN && unit > 255 && (1..=247).contains(&(unit & 0xFF)));
-        compare(&wanted, &got, &archive).map_err(|text| format!("Fresh({day_first}, {unit}, {length} bytes)\n{text}"))?;
+        compare(&wanted, &got, &lent).map_err(|text| format!("Fresh({day_first}, {unit}, {length} bytes)\n{text}"))?;
         // what a refused Fresh leaves has no archive
+        let mut archive = lent.archive;
         archive.truncate(got.state.site.archive_length as usize);
-        Ok(List { machine, state: got.state, archive, history: History::default() })
+        Ok(List { machine, state: got.state, archive, history: History::default(), origins: Origins::of_empty_files() })
     }
 
     /// A state that is not Foreign, over random bytes.
     pub fn standing(random: &mut Random, state: State) -> List {
         let archive = random.bytes(state.site.archive_length as usize);
         let machine = Machine::standing(&raw_of(&state), remembered_of(&state), &archive);
-        List { machine, state, archive, history: History::of_standing() }
+        let origins = Origins::of_standing(&machine);
+        List { machine, state, archive, history: History::of_standing(), origins }
+    }
+
+    /// How many captures each file has had since it was emptied.
+    pub fn captures(&self) -> Captured {
+        captures(&self.machine)
     }
 
     /// One call on both sides, one in so many with an archive of another length.
     pub fn call(&mut self, random: &mut Random, tally: &mut Tally, call: &Call, other_length: u64) -> Result<(), String> {
         let length = lent_length(random, self.archive.len(), other_length);
-        let lent = lent(random, &self.archive, length);
-        let captures_before = captures(&self.machine);
+        let lent = Lent::of(random, &self.archive, length, call.room());
+        let captures_before = self.captures();
         let wanted = wanted_of_machine(&mut self.machine, &self.state, call, &lent);
-        agree(&wanted, &self.state, call, &lent)
-            .map_err(|text| format!("{length} bytes lent, {call:?}\n{text}\nstate {:?}", self.state))?;
+        let told = |text| format!("{length} bytes lent, {call:?}\n{text}\nstate {:?}", self.state);
+        agree(&wanted, &self.state, call, &lent).map_err(told)?;
         tally.count(call, &wanted, &lent);
-        if wanted.told.is_done() {
-            let captured = captured_since(&self.machine, &captures_before, call);
-            if let Call::Scan { table, stamp } = call {
-                tally.scanned(&Sight::new(&self.state, &table.0, *stamp, captured, &self.history));
+        if !wanted.told.is_done() {
+            return Ok(());
+        }
+        let captured = captured_since(&self.machine, &captures_before, call);
+        self.look_at(tally, call, &wanted, &captured).map_err(told)?;
+        self.note(call, &wanted.state, &captured);
+        tally.most_rounds = tally.most_rounds.max(self.history.most_rounds());
+        self.state = wanted.state;
+        self.archive = wanted.lent.archive;
+        Ok(())
+    }
+
+    /// A scan of which answer and state are compared and the archive is not, until `end` does: a file of 65,535 records would take
+    /// minutes to fill if all its bytes were compared at every capture.
+    pub fn scan_by_answer(&mut self, call: &Call) -> Result<(), String> {
+        let captures_before = self.captures();
+        let mut lent = Lent { archive: std::mem::take(&mut self.archive), reply: Buffer::none() };
+        let (told, length) = call.on_model(&mut self.machine, lent.archive.len(), &mut lent.reply);
+        let got = call.clone().on_library(self.state, &mut lent);
+        self.archive = lent.archive;
+        let after = state_of(&self.machine.raw_state(), self.machine.remembered(), &self.state);
+        compare_answer(&told, length, &after, &got)?;
+        let captured = captured_since(&self.machine, &captures_before, call);
+        self.note(call, &after, &captured);
+        self.state = after;
+        Ok(())
+    }
+
+    /// What an accepted scan or poll shows; the reply to a poll of a record is decoded and held against what was scanned.
+    fn look_at(&self, tally: &mut Tally, call: &Call, wanted: &Wanted, captured: &Captured) -> Result<(), String> {
+        let (before, history) = (&self.state, &self.history);
+        match call {
+            Call::Scan { table, stamp } => tally.scanned(&Sight::new(before, &table.0, *stamp, *captured, history)),
+            Call::Poll { frame, room } => {
+                let (frame, reply) = (&frame.0, wanted.reply());
+                tally.polls.polled(&PollSight { before, after: &wanted.state, frame, room: *room, reply, history });
+                self.origins.read_back(&mut tally.polls.read_back, before, frame, reply)?;
             }
-            self.history.note(&self.state, call, &captured);
-            tally.most_rounds = tally.most_rounds.max(self.history.most_rounds());
-            self.state = wanted.state;
-            self.archive = wanted.archive;
+            _ => {}
         }
         Ok(())
+    }
+
+    /// Takes note of an accepted call.
+    fn note(&mut self, call: &Call, after: &State, captured: &Captured) {
+        self.history.note(&self.state, after, call, captured);
+        match call {
+            Call::Start if self.state.flags.pending => self.origins = Origins::of_empty_files(),
+            Call::Scan { table, stamp } => self.origins.note(&table.0, *stamp, captured),
+            _ => {}
+        }
     }
 
     /// One damaged copy of the state, handed to a random call.
@@ -123,10 +169,10 @@ impl List {
         }
         let call = Call::random(random, s);
         let length = lent_length(random, hurt.site.archive_length as usize, 5);
-        let lent = lent(random, &self.archive, length);
+        let lent = Lent::of(random, &self.archive, length, call.room());
         let wanted = wanted_of_state(&hurt, &call, &lent);
         if was_valid && foreign(&raw_of(&hurt)) {
-            let undamaged = wanted_of_state(s, &call, &self.archive);
+            let undamaged = wanted_of_state(s, &call, &Lent { archive: self.archive.clone(), ..lent.clone() });
             tally.count_foreign(&wanted, &undamaged);
         }
         tally.count(&call, &wanted, &lent);

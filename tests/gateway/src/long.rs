@@ -1,5 +1,5 @@
-//! Long runs: thousands of scans, with stops and starts, moved triggers and refused scans among them, on files that go round many
-//! times.
+//! Long runs: thousands of scans and polls, with stops and starts, moved triggers and refused scans among them, on files that go
+//! round many times.
 
 use gateway::ffi::State;
 use gateway::states::{boolean_or_none, float_or_none, good_groups, standing};
@@ -13,11 +13,12 @@ use crate::lists::{List, NEVER};
 use crate::tally::Tally;
 
 /// The calls of a long run, but for those that lay out its files.
-pub const CALLS: usize = 4_000;
+pub const CALLS: usize = 8_000;
 /// The most bytes that files 1 to 10 are given.
 const MOST_FOR_FILES: u64 = 12_000;
-/// The calls between two layouts, on the average.
-const CALLS_A_LAYOUT: u64 = 800;
+/// The calls between two layouts, on the average, in every other run; the rest keep theirs, so that small files go round hundreds
+/// of times.
+const CALLS_A_LAYOUT: u64 = 1_600;
 
 /// A number of records that has room: mostly few, now and then all that there is room for, or none.
 fn few_records(random: &mut Random, room: u64) -> u64 {
@@ -86,14 +87,16 @@ fn changed_slot(random: &mut Random) -> Call {
     alarm(random, slot, point)
 }
 
-/// Mostly a scan. A gateway that was stopped is started again after about ten.
+/// Mostly a scan or a poll. A gateway that was stopped is started again after about ten scans.
 fn next_call(random: &mut Random, s: &State) -> Call {
-    match random.below(40) {
+    match random.below(80) {
         0 => moved_trigger(random, s),
         1 => changed_slot(random),
         2 => Call::Stop,
         3..=6 if !s.flags.running => Call::Start,
-        _ => Call::scan(random, s),
+        7 => Call::Lock,
+        8..=43 => Call::scan(random, s),
+        _ => Call::poll(random, s),
     }
 }
 
@@ -117,8 +120,9 @@ pub fn long_run(random: &mut Random, tally: &mut Tally) -> Result<(), String> {
         let unit = 1 + random.below(247) as u32;
         (List::fresh(random, tally, archive, unit)?, new_layout(random, archive))
     };
+    let calls_a_layout = if random.chance(2) { CALLS_A_LAYOUT } else { NEVER };
     for number in 1..=CALLS {
-        if random.chance(CALLS_A_LAYOUT) {
+        if random.chance(calls_a_layout) {
             ahead = new_layout(random, list.state.site.archive_length as usize);
         }
         for call in ahead.drain(..) {

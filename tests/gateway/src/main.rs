@@ -1,16 +1,23 @@
-//! Long random lists of calls on libgateway.a and on the model: each answer, the whole state and all archive bytes are compared.
+//! Long random lists of calls on libgateway.a and on the model: each answer, the whole state, all archive bytes and all bytes of a
+//! poll's reply buffer are compared, and polled records are decoded by libreader.a and held against what was scanned.
 //!
-//!     gateway [SEED [LISTS [RUNS]]]
+//!     gateway [SEED [SHORT [LONG [DEEP [IN_TURN]]]]]
 //!
-//! There are LISTS short lists of calls of every kind and RUNS long ones that are mostly scans. Some start with Fresh, the others
-//! from a random state that is not Foreign over random bytes. Between the calls of a list, damaged copies of the state are handed
-//! in. List i of either kind is made from SEED + i, so `gateway SEED+i 1 0` repeats a short one alone, `gateway SEED+i 0 1` a long
-//! one.
+//! The numbers say how many lists of each kind there are: short ones of calls of every kind; long ones that are mostly scans and
+//! polls; one that fills a file of 65,535 records; polls of every address and more, in turn. Some lists start with Fresh, others
+//! from a random state that is not Foreign over random bytes. Between the calls of short and long ones, damaged copies of the state
+//! are handed in. List i of each kind is made from SEED + i, so `gateway SEED+i 1 0 0 0` repeats a short one alone.
 
 mod calls;
 mod compare;
+mod deep;
+mod in_turn;
+mod lent;
 mod lists;
 mod long;
+mod origins;
+mod poll_sights;
+mod poll_tally;
 mod scans;
 mod sights;
 mod tally;
@@ -20,37 +27,48 @@ use std::process::exit;
 use reader::random::Random;
 use reader::seeds::{argument, spread, SEED};
 
-use lists::short_list;
-use long::long_run;
 use tally::Tally;
 
-const LISTS: u64 = 3_000;
-const RUNS: u64 = 24;
-const USAGE: &str = "gateway [SEED [LISTS [RUNS]]]";
+/// A kind of list: how many there are of it, and how one is gone through.
+struct Kind {
+    lists: u64,
+    go: fn(&mut Random, &mut Tally) -> Result<(), String>,
+}
 
-/// Goes through a list; a difference ends the program.
-fn try_list(seed: u64, tally: &mut Tally, list: fn(&mut Random, &mut Tally) -> Result<(), String>, repeat: &str) {
-    if let Err(text) = list(&mut Random::new(spread(seed)), tally) {
-        println!("DIFFERENCE in the list of seed {seed}, {text}\nrepeat it with: gateway {seed} {repeat}");
+const KINDS: [Kind; 4] = [
+    Kind { lists: 3_000, go: lists::short_list },
+    Kind { lists: 24, go: long::long_run },
+    Kind { lists: 1, go: deep::deep_run },
+    Kind { lists: 1, go: in_turn::polls_in_turn },
+];
+const USAGE: &str = "gateway [SEED [SHORT [LONG [DEEP [IN_TURN]]]]]";
+
+/// Goes through a list of one of KINDS; a difference ends the program.
+fn try_list(kind: usize, seed: u64, tally: &mut Tally) {
+    if let Err(text) = (KINDS[kind].go)(&mut Random::new(spread(seed)), tally) {
+        let repeat: Vec<String> = (0..KINDS.len()).map(|other| u8::from(other == kind).to_string()).collect();
+        println!("DIFFERENCE in the list of seed {seed}, {text}\nrepeat it with: gateway {seed} {}", repeat.join(" "));
         exit(1);
     }
 }
 
 fn main() {
-    let (seed, lists, runs) = (argument(1, SEED, USAGE), argument(2, LISTS, USAGE), argument(3, RUNS, USAGE));
-    println!("seed {seed}, {lists} lists of {} calls and {runs} of {}", lists::CALLS, long::CALLS);
+    let seed = argument(1, SEED, USAGE);
+    let lists: [u64; KINDS.len()] = std::array::from_fn(|kind| argument(2 + kind, KINDS[kind].lists, USAGE));
+    let [short, long, deep, in_turn] = lists;
+    println!("seed {seed}, {short} lists of {} calls, {long} of {}, {deep} deep, {in_turn} in turn", lists::CALLS, long::CALLS);
     let mut tally = Tally::default();
-    for list in 0..lists {
-        try_list(seed.wrapping_add(list), &mut tally, short_list, "1 0");
-    }
-    for run in 0..runs {
-        try_list(seed.wrapping_add(run), &mut tally, long_run, "0 1");
+    for (kind, &lists) in lists.iter().enumerate() {
+        for list in 0..lists {
+            try_list(kind, seed.wrapping_add(list), &mut tally);
+        }
     }
     tally.print();
     let seldom = tally.hardly_seen();
-    if lists >= LISTS && runs >= RUNS && !seldom.is_empty() {
+    if lists.iter().zip(&KINDS).all(|(&lists, kind)| lists >= kind.lists) && !seldom.is_empty() {
         println!("hardly seen: {}", seldom.join("; "));
         exit(1);
     }
-    println!("{} lists of calls agree", lists + runs);
+    println!("{} polls in turn agree", tally.polls_in_turn);
+    println!("{} lists of calls agree", lists.iter().sum::<u64>());
 }

@@ -27,6 +27,8 @@ pub struct History {
     restarted: bool,
     /// How often each file has gone round since it was last emptied.
     rounds: Captured,
+    /// How many records each file has captured since its requested number was last set.
+    since_requested: Captured,
 }
 
 impl History {
@@ -36,7 +38,7 @@ impl History {
     }
 
     /// Takes note of an accepted call.
-    pub fn note(&mut self, before: &State, call: &Call, captured: &Captured) {
+    pub fn note(&mut self, before: &State, after: &State, call: &Call, captured: &Captured) {
         match call {
             Call::Start if before.flags.pending => {
                 *self = History { stamp: self.stamp, raised_while_stopped: self.raised_while_stopped, ..History::default() }
@@ -51,12 +53,31 @@ impl History {
                 let raised = if before.seen.scanned { now & !booleans(&before.seen.booleans) } else { 0 };
                 self.raised_while_stopped = if before.flags.running { 0 } else { (self.raised_while_stopped | raised) & now };
                 self.stamp = Some(*stamp);
-                for (file, rounds) in self.rounds.iter_mut().enumerate() {
-                    *rounds += usize::from(goes_round(before, captured, file));
+                for file in 0..ALARM_FILE {
+                    self.rounds[file] += usize::from(goes_round(before, captured, file));
+                    self.since_requested[file] += captured[file];
+                }
+            }
+            Call::Poll { .. } => {
+                for file in (0..ALARM_FILE).filter(|&file| after.line.requested[file] != before.line.requested[file]) {
+                    self.since_requested[file] = 0;
                 }
             }
             _ => {}
         }
+    }
+
+    /// Whether archive memory may have bytes that no call of the list has put there.
+    pub fn stands(&self) -> bool {
+        self.stands
+    }
+
+    pub fn rounds(&self, file: usize) -> usize {
+        self.rounds[file - 1]
+    }
+
+    pub fn since_requested(&self, file: usize) -> usize {
+        self.since_requested[file - 1]
     }
 
     /// How often the file that went round most has done so.

@@ -5,6 +5,8 @@ use model::card::{FOREIGN, MEMORY, TABLE};
 
 use crate::calls::{Call, NAMES, WIDE};
 use crate::compare::Wanted;
+use crate::lent::Lent;
+use crate::poll_tally::PollTally;
 use crate::sights::{Sight, SIGHTS};
 
 /// The numbers that each call of NAMES is to answer.
@@ -17,12 +19,13 @@ const NUMBERS: [&[usize]; NAMES.len()] = [
     &[0, 1, 2, 5, 9],
     &[0, 1, 2, 12],
     &[0, 1, 2, 3, 4],
+    &[0, 1, 2, 13],
     &[0, 1, 2],
 ];
 
 /// How often each of SIGHTS is to be seen, and a file is to go round in one list.
 const OFTEN_ENOUGH: usize = 5;
-const MANY_ROUNDS: usize = 50;
+const MANY_ROUNDS: usize = 200;
 
 #[derive(Default)]
 pub struct Tally {
@@ -41,18 +44,22 @@ pub struct Tally {
     sights: [usize; SIGHTS.len()],
     /// How often the file that went round most in one list did so.
     pub most_rounds: usize,
+    pub polls: PollTally,
+    /// The polls that were made one after the other, which are in no other count.
+    pub polls_in_turn: usize,
 }
 
 impl Tally {
-    pub fn count(&mut self, call: &Call, wanted: &Wanted, lent: &[u8]) {
+    pub fn count(&mut self, call: &Call, wanted: &Wanted, lent: &Lent) {
         let number = wanted.told.number;
         self.answers[call.kind()][number as usize] += 1;
         if let Some(argument) = call.wide_argument().filter(|_| number > FOREIGN) {
             self.wide[argument] += 1;
         }
         match call {
-            Call::Start => self.zeroed += u32::from(wanted.archive != lent),
+            Call::Start => self.zeroed += u32::from(wanted.lent.archive != lent.archive),
             Call::Scan { stamp, .. } => self.table_and_clock += u32::from(number == TABLE && !stamp.in_range()),
+            Call::Poll { frame, room } => self.polls.count(number, &frame.0, *room),
             _ => {}
         }
     }
@@ -93,6 +100,7 @@ impl Tally {
         if self.most_rounds < MANY_ROUNDS {
             seldom.push("a file that goes round many times".to_string());
         }
+        seldom.extend(self.polls.seen().into_iter().filter(|(_, n, least)| n < least).map(|(name, ..)| name));
         seldom
     }
 
@@ -114,5 +122,8 @@ impl Tally {
             println!("{name}: {seen}");
         }
         println!("one file went round {} times in one list", self.most_rounds);
+        for (name, n, _) in self.polls.seen() {
+            println!("{name}: {n}");
+        }
     }
 }

@@ -7,8 +7,10 @@
 pub mod card;
 pub mod crc;
 pub mod foreign;
+pub mod frames;
 pub mod layout;
 pub mod machine;
 pub mod points;
+pub mod published;
 pub mod reader;
 pub mod record;

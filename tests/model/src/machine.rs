@@ -1,5 +1,5 @@
 //! Document 01, "The plain machine": the state and the calls that set it.
-//! Scans, frames and the archive worked out from the lists are below
+//! Scans, polls and the archive worked out from the lists are below
 //! `src/machine/`.
 //!
 //! Every call is lent archive memory and takes its length, so Memory (1)
@@ -7,12 +7,13 @@
 //! what is taken fits its field.
 
 mod archive;
-mod frame;
+mod poll;
 mod scan;
 #[cfg(test)]
 mod tests;
 
 pub use archive::{newest_capture, pointer_after};
+pub use poll::{FIRST_REGISTER, LAST_REGISTER, LEAST_REPLY};
 
 use crate::card::{self, lowest, Answer};
 use crate::foreign::{

@@ -143,13 +143,12 @@ fn four_bytes(bytes: &[u8], from: usize) -> [u8; 4] {
 #[cfg(test)]
 mod tests {
     use super::*;
+    use crate::frames::read_reply;
     use crate::points::{groups_from_first_place, TABLE_BYTES};
     use crate::record::{captured_record, AUGUST};
 
     fn reply(record: &[u8]) -> Vec<u8> {
-        let mut frame = vec![1, 3, record.len() as u8];
-        frame.extend(record);
-        crc::with_crc(frame)
+        read_reply(1, record)
     }
 
     /// One group of each kind, with unused places at 1 and 4.

@@ -1,24 +1,14 @@
-//! The four calls of the library beside the model's, and each point that they decode beside the live table.
+//! The four calls of the library beside the model's.
 
-use std::fmt::Debug;
 use std::ops::Range;
 
 use model::card::Refusal;
-use model::points::{row_of_point, Kind};
 use model::reader::{self as model_reader, Value};
-use model::record::boolean;
 use reader::ffi::{self, PartAnswer, PointAnswer, Stamp, StampAnswer};
 use reader::random::Random;
+use reader::read_back::{same, Given};
 
 use crate::tally::Tally;
-
-/// What a call is given but for its indices.
-#[derive(Debug)]
-pub struct Given<'a> {
-    pub groups: &'a [u16],
-    pub day_first: bool,
-    pub frame: &'a [u8],
-}
 
 fn part(answer: Result<Range<usize>, Refusal>) -> PartAnswer {
     match answer {
@@ -47,14 +37,6 @@ fn valued(answer: Result<Value, Refusal>) -> PointAnswer {
     }
 }
 
-fn same<T: Debug + PartialEq>(call: &str, wanted: T, got: T) -> Result<(), String> {
-    if got == wanted {
-        Ok(())
-    } else {
-        Err(format!("{call}: wanted {wanted:?}, got {got:?}"))
-    }
-}
-
 /// All four calls agree with the model, at indices that go past both ends too. Answers the number that all begin with.
 pub fn agree(random: &mut Random, tally: &mut Tally, given: &Given) -> Result<u32, String> {
     let Given { groups, day_first, frame } = *given;
@@ -73,36 +55,4 @@ pub fn agree(random: &mut Random, tally: &mut Tally, given: &Given) -> Result<u3
         tally.points[point.number as usize] += 1;
     }
     Ok(record.number)
-}
-
-/// What a point of the live table is to be decoded as: the kind's number, the bits of a number and the bytes of a text.
-fn in_table(table: &[u8], point: u16) -> (u32, u32, &[u8]) {
-    let row = row_of_point(point).expect("a point of a good group");
-    if row.kind == Kind::Boolean {
-        return (1, boolean(table, point).into(), &[]);
-    }
-    let bytes = &table[row.place_in_table(point)..][..row.point_bits / 8];
-    let number = bytes.iter().take(4).fold(0u32, |n, &byte| n << 8 | u32::from(byte));
-    match row.kind {
-        Kind::Int16 => (2, number as u16 as i16 as u32, &[]),
-        Kind::Int32 => (3, number, &[]),
-        Kind::Float => (4, number, &[]),
-        _ => (5, 0, bytes),
-    }
-}
-
-/// Every point of the reply is the live table's, of which the record was captured, and the stamp is the capture's.
-pub fn read_back(tally: &mut Tally, given: &Given, table: &[u8], stamp: Stamp) -> Result<(), String> {
-    let Given { groups, day_first, frame } = *given;
-    same("stamp of a capture", StampAnswer { number: 0, carried: 0, stamp }, ffi::stamp(groups, day_first, frame))?;
-    for (g, pair) in (1..).zip(groups.chunks_exact(2)) {
-        for e in 1..=u32::from(pair[1]) {
-            let got = ffi::point(groups, day_first, frame, g, e);
-            let text = &frame[got.place as usize..][..got.length as usize];
-            let wanted = in_table(table, pair[0] + e as u16 - 1);
-            same(&format!("point {g}, {e} of a capture"), (0, wanted), (got.number, (got.kind, got.bits, text)))?;
-            tally.kinds[got.kind as usize] += 1;
-        }
-    }
-    Ok(())
 }

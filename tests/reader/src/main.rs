@@ -12,12 +12,14 @@ mod tally;
 
 use std::process::exit;
 
+use model::frames::read_reply;
 use model::points::judge_definition;
 use model::record::captured_record;
-use reader::random::{groups, reply, stamp, Random};
+use reader::random::{groups, stamp, Random};
+use reader::read_back::{read_back, Given};
 use reader::seeds::{argument, spread, SEED};
 
-use compare::{agree, read_back, Given};
+use compare::agree;
 use faults::{other_length, FAULTS};
 use tally::Tally;
 
@@ -30,11 +32,11 @@ fn round(random: &mut Random, tally: &mut Tally) -> Result<(), String> {
     let is_good = judge_definition(&numbers).is_ok();
     let (day_first, table, stamp) = (random.chance(2), random.bytes(1424), stamp(random));
     let record = if is_good { captured_record(&numbers, &table, stamp, day_first) } else { random.bytes(30) };
-    let frame = reply(1 + random.below(247) as u8, &record);
+    let frame = read_reply(1 + random.below(247) as u8, &record);
     let right = Given { groups: &numbers, day_first, frame: &frame };
     agree(random, tally, &right).map_err(|text| format!("{text}\n{right:?}"))?;
     if is_good {
-        read_back(tally, &right, &table, stamp.into()).map_err(|text| format!("{text}\n{right:?}"))?;
+        read_back(&mut tally.kinds, &right, &table, stamp.into()).map_err(|text| format!("{text}\n{right:?}"))?;
     }
     let index = random.below(FAULTS.len() as u64) as usize;
     let faulty = Given { frame: &(FAULTS[index].make)(random, &frame), ..right };

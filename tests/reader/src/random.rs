@@ -1,6 +1,5 @@
-//! Random definitions, stamps, tables and replies, from a seed that a test prints.
+//! Random definitions, stamps and bytes, from a seed that a test prints.
 
-use model::crc::with_crc;
 use model::points::ROWS;
 use model::record::Stamp;
 
@@ -73,11 +72,4 @@ pub fn stamp(random: &mut Random) -> Stamp {
         minute: random.below(60) as u8,
         second: random.below(60) as u8,
     }
-}
-
-/// The reply that carries a record: unit, 03, byte count, record, CRC.
-pub fn reply(unit: u8, record: &[u8]) -> Vec<u8> {
-    let mut frame = vec![unit, 3, record.len() as u8];
-    frame.extend_from_slice(record);
-    with_crc(frame)
 }

@@ -1,11 +1,12 @@
 //! What a run has seen, and what it should have.
 
+use reader::read_back::{Kinds, KINDS};
+
 use crate::faults::FAULTS;
 
 /// The numbers that the reading end answers: for record and stamp, and for stretch and point.
 const OF_RECORDS: [usize; 5] = [0, 7, 8, 14, 15];
 const OF_POINTS: [usize; 6] = [0, 7, 8, 14, 15, 16];
-const KINDS: [&str; 6] = ["none", "flag", "16-bit", "32-bit", "float", "text"];
 /// How often each of them is to be seen.
 const OFTEN_ENOUGH: u32 = 100;
 
@@ -16,7 +17,7 @@ pub struct Tally {
     pub stretches: [u32; 17],
     pub points: [u32; 17],
     /// How often a point of each kind was read back from a capture.
-    pub kinds: [u32; KINDS.len()],
+    pub kinds: Kinds,
     /// How often each fault was told by its number.
     pub faults: [u32; FAULTS.len()],
     /// Lists of more than 32 numbers, and of fewer, whose first ones fit the frame.

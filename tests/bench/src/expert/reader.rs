@@ -2,29 +2,9 @@
 
 use reader::ffi::{PointAnswer, Stamp};
 
+use super::crc::crc;
 use super::points::{good_group, Kind, Row, LONGEST_RECORD, STAMP_BYTES};
 use super::records::in_range;
-
-const fn crc_steps() -> [u16; 256] {
-    let mut steps = [0; 256];
-    let mut byte = 0;
-    while byte < 256 {
-        let (mut crc, mut turn) = (byte as u16, 0);
-        while turn < 8 {
-            crc = if crc & 1 == 1 { crc >> 1 ^ 0xA001 } else { crc >> 1 };
-            turn += 1;
-        }
-        steps[byte] = crc;
-        byte += 1;
-    }
-    steps
-}
-
-static CRC_STEPS: [u16; 256] = crc_steps();
-
-fn crc(bytes: &[u8]) -> u16 {
-    bytes.iter().fold(0xFFFF, |crc, &byte| crc >> 8 ^ CRC_STEPS[usize::from(crc as u8 ^ byte)])
-}
 
 /// A group of the definition: its row, its number of points, and where it starts in the frame.
 struct Found {

@@ -1,11 +1,13 @@
 //! The yardstick does what the library does, on random states, damaged ones, and random frames.
 
 use ::gateway::ffi::{self, State};
+use ::gateway::frames::{any_frame, any_room};
 use ::gateway::states::{damage, standing, CLAUSES};
+use model::frames::read_reply;
 use model::record::captured_record;
-use reader::random::{groups, reply, stamp, Random};
+use reader::random::{groups, stamp, Random};
 
-use super::{gateway, reader as plain_reader};
+use super::{gateway, polls, reader as plain_reader};
 
 const ROUNDS: usize = 2_000;
 
@@ -46,6 +48,32 @@ fn lock_and_scan_are_the_librarys() {
     assert!(seen.iter().all(|&n| n > 10), "numbers of scans {seen:?}");
 }
 
+/// Each state is polled with frames of every kind, and goes on with what an answered one left.
+#[test]
+fn a_poll_is_the_librarys() {
+    let mut random = Random::new(3);
+    let (mut numbers, mut lengths) = ([0; 14], [0; 256]);
+    for _ in 0..ROUNDS {
+        let mut s = any_state(&mut random);
+        let length = s.site.archive_length as usize + usize::from(random.chance(20));
+        let mut archive = random.bytes(length);
+        for _ in 0..20 {
+            let (mut frame, room) = (any_frame(&mut random, &s).0, any_room(&mut random));
+            let mut reply = random.bytes(room);
+            let (mut after, mut plain_reply) = (s, reply.clone());
+            let plain = polls::poll(&mut after, &archive, &frame, &mut plain_reply);
+            let wanted = ffi::poll(s, &mut archive, &mut frame, &mut reply);
+            assert_eq!((plain, after), ((wanted.number, wanted.length), wanted.state), "{frame:02x?}");
+            assert_eq!(plain_reply, reply, "{frame:02x?}");
+            numbers[wanted.number as usize] += 1;
+            lengths[wanted.length as usize] += 1;
+            s = after;
+        }
+    }
+    assert!([0, 1, 2, 13].iter().all(|&number| numbers[number] > 10), "numbers of polls {numbers:?}");
+    assert!([0, 5, 8, 11, 27, 255].iter().all(|&length| lengths[length] > 10), "lengths of replies {lengths:?}");
+}
+
 #[test]
 fn a_point_is_the_librarys() {
     let mut random = Random::new(2);
@@ -60,7 +88,7 @@ fn a_point_is_the_librarys() {
             1 => record[random.below(6) as usize] = random.next() as u8,
             _ => {}
         }
-        let mut frame = reply(random.next() as u8, &record);
+        let mut frame = read_reply(random.next() as u8, &record);
         let at = random.below(frame.len() as u64) as usize;
         frame[at] ^= u8::from(random.chance(8));
         for _ in 0..20 {

@@ -4,11 +4,13 @@
 use super::*;
 use crate::card::Refusal;
 use crate::crc;
+use crate::frames::request;
 use crate::points::{groups_from_first_place, TABLE_BYTES};
 use crate::record::{Stamp, AUGUST};
 
 mod frames;
 mod mixed_run;
+mod rows;
 mod scans;
 mod settings;
 mod standing;
@@ -74,29 +76,24 @@ fn second_of(machine: &Machine, k: usize) -> u8 {
     machine.record(1, k)[5]
 }
 
-/// The reply to a request of 8 bytes to our unit; the rest of the reply
-/// buffer must stay as lent.
+/// The reply to a request of 8 bytes.
 fn ask(machine: &mut Machine, unit: u8, function: u8, address: u16, number: u16) -> Vec<u8> {
-    let mut body = vec![unit, function];
-    body.extend(address.to_be_bytes());
-    body.extend(number.to_be_bytes());
-    send(machine, &crc::with_crc(body))
+    send(machine, &request(unit, function, address, number))
 }
 
+/// The reply to a frame; the rest of the reply buffer must stay as lent.
 fn send(machine: &mut Machine, frame: &[u8]) -> Vec<u8> {
     let mut reply = [0xAA; 300];
-    let (answer, length) = machine.frame(ARCHIVE, frame, &mut reply);
+    let (answer, length) = machine.poll(ARCHIVE, frame, &mut reply);
     done(answer);
     assert!(reply[length..].iter().all(|&byte| byte == 0xAA));
     reply[..length].to_vec()
 }
 
 fn read_reply(data: &[u8]) -> Vec<u8> {
-    let mut reply = vec![UNIT, 3, data.len() as u8];
-    reply.extend(data);
-    crc::with_crc(reply)
+    crate::frames::read_reply(UNIT, data)
 }
 
 fn exception(function: u8, code: u8) -> Vec<u8> {
-    crc::with_crc(vec![UNIT, function | 0x80, code])
+    crate::frames::exception(UNIT, function, code)
 }

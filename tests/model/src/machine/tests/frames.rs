@@ -1,6 +1,7 @@
-//! The Modbus answering end.
+//! Which frames are answered, exceptions in their order, and unit 0.
 
 use super::*;
+use crate::frames::{ILLEGAL_ADDRESS, ILLEGAL_FUNCTION, ILLEGAL_VALUE};
 
 const RECORD_2: [u8; 8] = [8, 29, 7, 11, 36, 2, 0, 0];
 
@@ -10,19 +11,25 @@ fn with_three_captures() -> Machine {
     machine
 }
 
+/// A frame of this length with a right CRC where it has room for one: the
+/// request cut short, or zeros behind its numbers.
+fn of_length(request: &[u8], length: usize) -> Vec<u8> {
+    let mut body = request[..6].to_vec();
+    body.resize(length.saturating_sub(2), 0);
+    let mut frame = crc::with_crc(body);
+    frame.truncate(length);
+    frame
+}
+
 #[test]
-fn records_by_quantity_and_by_requested_number() {
+fn a_poll_by_requested_number_ignores_the_quantity() {
     let mut machine = with_three_captures();
-    let whole = read_reply(&RECORD_2);
-    let stamp = read_reply(&RECORD_2[..6]);
-    assert_eq!(ask(&mut machine, UNIT, 3, 721, 2), whole);
-    assert_eq!(ask(&mut machine, UNIT, 3, 771, 2), stamp);
-    assert_eq!(ask(&mut machine, UNIT, 3, 701, 2), exception(3, 3));
-    assert_eq!(ask(&mut machine, UNIT, 3, 751, 2), exception(3, 3));
     ask(&mut machine, UNIT, 6, 3703, 2);
     for quantity in [0, 1, 65_535] {
-        assert_eq!(ask(&mut machine, UNIT, 3, 701, quantity), whole);
-        assert_eq!(ask(&mut machine, UNIT, 3, 751, quantity), stamp);
+        let whole = ask(&mut machine, UNIT, 3, 701, quantity);
+        assert_eq!(whole, read_reply(&RECORD_2));
+        let stamp = ask(&mut machine, UNIT, 3, 751, quantity);
+        assert_eq!(stamp, read_reply(&RECORD_2[..6]));
     }
 }
 
@@ -34,11 +41,11 @@ fn a_record_not_captured_yet_is_zeros() {
 }
 
 #[test]
-fn a_number_not_1_to_n_is_exception_03() {
+fn an_idle_file_has_no_record() {
     let mut machine = with_three_captures();
-    for (address, number) in [(721, 0), (721, 5), (722, 1), (731, 501), (781, 0)] {
-        let reply = ask(&mut machine, UNIT, 3, address, number);
-        assert_eq!(reply, exception(3, 3));
+    for (function, address) in [(3, 702), (3, 722), (3, 752), (3, 772), (6, 3706)] {
+        let reply = ask(&mut machine, UNIT, function, address, 1);
+        assert_eq!(reply, exception(function, ILLEGAL_VALUE));
     }
 }
 
@@ -55,117 +62,109 @@ fn blunder_replies_go_by_the_layout_not_the_draft() {
     assert_eq!(ask(&mut machine, UNIT, 3, 3701, 3), registers);
 }
 
+/// Under 4 and over 256 bytes there is no reply; of the others only 8 is
+/// the length of a request.
 #[test]
-fn registers_are_n_pointer_and_requested() {
+fn lengths() {
     let mut machine = with_three_captures();
-    ask(&mut machine, UNIT, 6, 3733, 500);
-    let mut data = [0; 66];
-    data[..4].copy_from_slice(&[0, 4, 0, 3]);
-    data[60..].copy_from_slice(&[0x01, 0xF4, 0, 0, 0x01, 0xF4]);
-    assert_eq!(ask(&mut machine, UNIT, 3, 3701, 33), read_reply(&data));
-    let last = read_reply(&[0x01, 0xF4]);
-    assert_eq!(ask(&mut machine, UNIT, 3, 3733, 1), last);
-}
-
-#[test]
-fn registers_judge_the_quantity_before_the_end() {
-    let mut machine = with_three_captures();
-    for (address, quantity, code) in [
-        (3701, 0, 3),
-        (3701, 34, 3),
-        (3733, 34, 3),
-        (3702, 33, 2),
-        (3733, 2, 2),
-        (3734, 0, 2),
-        (3700, 34, 2),
-    ] {
-        let reply = ask(&mut machine, UNIT, 3, address, quantity);
-        assert_eq!(reply, exception(3, code));
-    }
-}
-
-#[test]
-fn unknown_addresses_are_exception_02() {
-    let mut machine = with_three_captures();
-    for address in [0, 700, 712, 720, 732, 750, 762, 770, 782, 1801, 65_535] {
-        assert_eq!(ask(&mut machine, UNIT, 3, address, 0), exception(3, 2));
-        assert_eq!(ask(&mut machine, UNIT, 6, address, 0), exception(6, 2));
-    }
-    for address in [701, 721, 3701, 3702, 3704, 3732, 3734, 3736] {
-        assert_eq!(ask(&mut machine, UNIT, 6, address, 1), exception(6, 2));
-    }
-}
-
-#[test]
-fn a_06_sets_requested_and_the_reply_echoes() {
-    let mut machine = with_three_captures();
-    for (file, address, value) in [(1, 3703, 4), (11, 3733, 500)] {
-        let reply = ask(&mut machine, UNIT, 6, address, value);
-        assert_eq!(reply.len(), 8);
-        assert_eq!(reply[..2], [UNIT, 6]);
-        assert_eq!(reply[4..6], value.to_be_bytes());
-        assert_eq!(machine.requested(file), value);
-    }
-    for (address, value) in [(3703, 0), (3703, 5), (3706, 1), (3733, 501)] {
+    for length in 0..=300 {
+        let read = of_length(&request(UNIT, 3, 721, 2), length);
+        let wanted = match length {
+            0..=3 | 257.. => vec![],
+            8 => read_reply(&RECORD_2),
+            _ => exception(3, ILLEGAL_VALUE),
+        };
+        assert_eq!(send(&mut machine, &read), wanted, "{length} bytes");
         let before = machine.clone();
-        let reply = ask(&mut machine, UNIT, 6, address, value);
-        assert_eq!(reply, exception(6, 3));
-        assert_eq!(machine, before);
+        send(&mut machine, &of_length(&request(UNIT, 6, 3703, 2), length));
+        assert_eq!(machine != before, length == 8, "06 of {length} bytes");
     }
 }
 
 #[test]
-fn a_broadcast_06_is_done_without_reply_and_no_other() {
+fn wrong_crcs_get_no_reply_and_change_nothing() {
     let mut machine = with_three_captures();
-    assert!(ask(&mut machine, 0, 6, 3703, 3).is_empty());
-    assert_eq!(machine.requested(1), 3);
     let before = machine.clone();
-    assert!(ask(&mut machine, 0, 6, 3703, 5).is_empty());
-    assert!(ask(&mut machine, 0, 6, 3704, 1).is_empty());
-    assert!(ask(&mut machine, 0, 3, 721, 1).is_empty());
-    assert!(ask(&mut machine, 0, 7, 721, 1).is_empty());
-    let long = crc::with_crc(vec![0, 6, 0x0E, 0x77, 0, 1, 0]);
-    assert!(send(&mut machine, &long).is_empty());
+    let right = request(UNIT, 6, 3703, 2);
+    for bit in 0..64 {
+        let mut wrong = right.clone();
+        wrong[bit / 8] ^= 1 << (bit % 8);
+        assert!(send(&mut machine, &wrong).is_empty());
+    }
+    let mut high_byte_first = right;
+    high_byte_first.swap(6, 7);
+    assert!(send(&mut machine, &high_byte_first).is_empty());
     assert_eq!(machine, before);
 }
 
 #[test]
-fn no_reply_to_other_units_wrong_lengths_and_wrong_crcs() {
+fn only_our_unit_is_answered() {
     let mut machine = with_three_captures();
+    for unit in (0..=255).filter(|&unit| unit != UNIT) {
+        let before = machine.clone();
+        assert!(ask(&mut machine, unit, 3, 721, 2).is_empty());
+        assert!(ask(&mut machine, unit, 4, 721, 2).is_empty());
+        assert!(ask(&mut machine, unit, 6, 3703, 5).is_empty());
+        assert!(ask(&mut machine, unit, 6, 3704, 2).is_empty());
+        assert_eq!(machine, before, "unit {unit}");
+    }
+}
+
+#[test]
+fn a_06_to_unit_0_is_done_without_reply() {
+    let mut machine = with_three_captures();
+    let mut wanted = machine.clone();
+    for (file, address, value) in [(1, 3703, 3), (11, 3733, 500)] {
+        assert!(ask(&mut machine, 0, 6, address, value).is_empty());
+        wanted.requested[file - 1] = value;
+        assert_eq!(machine, wanted);
+    }
+    let no_request = of_length(&request(0, 6, 3703, 1), 9);
+    assert!(send(&mut machine, &no_request).is_empty());
+    assert_eq!(machine, wanted);
+}
+
+/// With a right CRC and for our unit. 81 hex stays 81 hex.
+#[test]
+fn other_functions_are_exception_01_whatever_their_length() {
+    let mut machine = with_three_captures();
+    for function in (0..=255).filter(|function| ![3, 6].contains(function)) {
+        for length in [4, 7, 8, 9, 256] {
+            let frame = of_length(&request(UNIT, function, 721, 2), length);
+            let reply = send(&mut machine, &frame);
+            assert_eq!(reply, exception(function, ILLEGAL_FUNCTION));
+        }
+    }
+    let reply = ask(&mut machine, UNIT, 0x81, 721, 2);
+    assert_eq!(reply[..3], [UNIT, 0x81, 1]);
+    assert_eq!(reply, ask(&mut machine, UNIT, 0x01, 721, 2));
+}
+
+/// Each frame has a fault that the line names and every later one that it
+/// can have.
+#[test]
+fn exceptions_in_their_order() {
+    let mut machine = with_three_captures();
+    let nine = |function| of_length(&request(UNIT, function, 0, 0), 9);
+    let eight = |function, address, number| request(UNIT, function, address, number);
+    let lines = [
+        ("function", nine(5), ILLEGAL_FUNCTION),
+        ("length of a 03", nine(3), ILLEGAL_VALUE),
+        ("address of a 03", eight(3, 3734, 0), ILLEGAL_ADDRESS),
+        ("number", eight(3, 721, 0), ILLEGAL_VALUE),
+        ("quantity 0", eight(3, 3701, 0), ILLEGAL_VALUE),
+        ("quantity over 33", eight(3, 3733, 34), ILLEGAL_VALUE),
+        ("past 3733", eight(3, 3733, 2), ILLEGAL_ADDRESS),
+        ("length of a 06", nine(6), ILLEGAL_VALUE),
+        ("address of a 06", eight(6, 3704, 0), ILLEGAL_ADDRESS),
+        ("value", eight(6, 3703, 5), ILLEGAL_VALUE),
+    ];
     let before = machine.clone();
-    assert!(ask(&mut machine, UNIT + 1, 6, 3703, 1).is_empty());
-    assert!(ask(&mut machine, 255, 6, 3703, 1).is_empty());
-    let mut garbled = crc::with_crc(vec![UNIT, 6, 0x0E, 0x77, 0, 1]);
-    garbled[7] ^= 0x80;
-    assert!(send(&mut machine, &garbled).is_empty());
-    assert!(send(&mut machine, &[]).is_empty());
-    assert!(send(&mut machine, &crc::with_crc(vec![UNIT])).is_empty());
-    let mut too_long = vec![0; 255];
-    too_long[0] = UNIT;
-    assert!(send(&mut machine, &crc::with_crc(too_long)).is_empty());
+    for (fault, frame, code) in lines {
+        let reply = send(&mut machine, &frame);
+        assert_eq!(reply, exception(frame[1], code), "{fault}");
+    }
     assert_eq!(machine, before);
-}
-
-#[test]
-fn function_goes_before_length_and_length_before_address() {
-    let mut machine = with_three_captures();
-    let mut longest = vec![0; 254];
-    longest[0] = UNIT;
-    longest[1] = 5;
-    let reply = send(&mut machine, &crc::with_crc(longest));
-    assert_eq!(reply, exception(5, 1));
-    let short = crc::with_crc(vec![UNIT, 3]);
-    assert_eq!(send(&mut machine, &short), exception(3, 3));
-    let nine = crc::with_crc(vec![UNIT, 6, 0, 0, 0, 0, 0]);
-    assert_eq!(send(&mut machine, &nine), exception(6, 3));
-}
-
-/// 81 hex stays 81 hex.
-#[test]
-fn a_function_with_its_highest_bit_set_keeps_it() {
-    let mut machine = with_three_captures();
-    let reply = ask(&mut machine, UNIT, 0x81, 721, 1);
-    assert_eq!(reply, crc::with_crc(vec![UNIT, 0x81, 1]));
 }
 
 #[test]
@@ -178,17 +177,18 @@ fn a_record_of_250_bytes_fills_a_reply_of_255() {
 }
 
 #[test]
-fn frame_answers_the_lowest_that_applies() {
+fn a_poll_answers_the_lowest_that_applies() {
     let mut machine = with_three_captures();
     let before = machine.clone();
-    let poll = crc::with_crc(vec![UNIT, 6, 0x0E, 0x77, 0, 1]);
+    let poll = request(UNIT, 6, 3703, 1);
     let mut reply = [0xAA; 255];
-    let (answer, length) = machine.frame(ARCHIVE, &poll, &mut reply);
+    let (answer, length) = machine.poll(ARCHIVE, &poll, &mut reply);
     refused(answer, 13);
     assert_eq!((length, reply), (0, [0xAA; 255]));
-    refused(machine.frame(ARCHIVE - 1, &poll, &mut reply).0, 1);
+    refused(machine.poll(ARCHIVE - 1, &poll, &mut reply).0, 1);
+    refused(machine.poll(ARCHIVE, &[], &mut []).0, 13);
     assert_eq!(machine, before);
     let mut reply = [0xAA; 256];
-    assert_eq!(machine.frame(ARCHIVE, &poll, &mut reply).1, 8);
+    assert_eq!(machine.poll(ARCHIVE, &poll, &mut reply).1, 8);
     assert_eq!(reply[..8], poll);
 }

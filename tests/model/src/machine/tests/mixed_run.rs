@@ -52,10 +52,8 @@ fn one_call(machine: &mut Machine, mixer: &mut Mixer) -> Answer {
         }
         _ => {
             let address = 3703 + 3 * file as u16;
-            let value = mixer.below(40) as u8;
-            let [high, low] = address.to_be_bytes();
-            let frame = crc::with_crc(vec![UNIT, 6, high, low, 0, value]);
-            machine.frame(ARCHIVE, &frame, &mut [0; 256]).0
+            let frame = request(UNIT, 6, address, mixer.below(40) as u16);
+            machine.poll(ARCHIVE, &frame, &mut [0; 256]).0
         }
     }
 }

@@ -3,34 +3,27 @@
 use super::Machine;
 use crate::card::{self, lowest, Answer};
 use crate::crc;
+use crate::frames::{
+    exception, number_at, read_reply, ILLEGAL_ADDRESS, ILLEGAL_FUNCTION, ILLEGAL_VALUE,
+};
 use crate::layout::ALARM_FILE;
 use crate::points::STAMP_BYTES;
 
 /// The least length of a lent reply buffer.
-pub const REPLY_BUFFER: usize = 256;
-
-/// Exception codes.
-const BAD_FUNCTION: u8 = 1;
-const BAD_ADDRESS: u8 = 2;
-const BAD_VALUE: u8 = 3;
+pub const LEAST_REPLY: usize = 256;
 
 /// The three registers a file: n, pointer, requested.
-const FIRST_REGISTER: u16 = 3701;
-const LAST_REGISTER: u16 = 3733;
-
-/// A number of a frame, high byte first.
-fn number_at(frame: &[u8], place: usize) -> u16 {
-    u16::from_be_bytes([frame[place], frame[place + 1]])
-}
+pub const FIRST_REGISTER: u16 = 3701;
+pub const LAST_REGISTER: u16 = 3733;
 
 impl Machine {
-    /// Frame. Answers as every call does, and the reply's length (0 for no
+    /// Poll. Answers as every call does, and the reply's length (0 for no
     /// reply). Reply bytes past that length are unchanged.
-    pub fn frame(&mut self, archive_len: usize, frame: &[u8], reply: &mut [u8]) -> (Answer, usize) {
+    pub fn poll(&mut self, archive_len: usize, frame: &[u8], reply: &mut [u8]) -> (Answer, usize) {
         let checked = lowest(&[
             (card::MEMORY, archive_len != self.archive_len),
             (card::FOREIGN, self.is_foreign()),
-            (card::REPLY, reply.len() < REPLY_BUFFER),
+            (card::REPLY, reply.len() < LEAST_REPLY),
         ]);
         if checked.is_err() {
             return (checked.into(), 0);
@@ -58,7 +51,7 @@ impl Machine {
         }
         match self.serve(frame) {
             Ok(reply) => reply,
-            Err(exception) => crc::with_crc(vec![unit, function | 0x80, exception]),
+            Err(code) => exception(unit, function, code),
         }
     }
 
@@ -66,20 +59,17 @@ impl Machine {
     fn serve(&mut self, frame: &[u8]) -> Result<Vec<u8>, u8> {
         let (unit, function) = (frame[0], frame[1]);
         if function != 3 && function != 6 {
-            return Err(BAD_FUNCTION);
+            return Err(ILLEGAL_FUNCTION);
         }
         if frame.len() != 8 {
-            return Err(BAD_VALUE);
+            return Err(ILLEGAL_VALUE);
         }
         let (address, number) = (number_at(frame, 2), number_at(frame, 4));
         if function == 6 {
             self.set_requested(address, number)?;
             return Ok(frame.to_vec());
         }
-        let data = self.read(address, number)?;
-        let mut reply = vec![unit, 3, data.len() as u8];
-        reply.extend(data);
-        Ok(crc::with_crc(reply))
+        Ok(read_reply(unit, &self.read(address, number)?))
     }
 
     /// Function 03: the data read.
@@ -93,7 +83,7 @@ impl Machine {
                 .record_numbered(file_past(770), quantity)
                 .map(stamp_only),
             FIRST_REGISTER..=LAST_REGISTER => self.registers(address, quantity),
-            _ => Err(BAD_ADDRESS),
+            _ => Err(ILLEGAL_ADDRESS),
         }
     }
 
@@ -103,7 +93,7 @@ impl Machine {
 
     fn record_numbered(&self, file: usize, number: u16) -> Result<Vec<u8>, u8> {
         if !(1..=self.laid_out_n(file)).contains(&number) {
-            return Err(BAD_VALUE);
+            return Err(ILLEGAL_VALUE);
         }
         Ok(self.record(file, usize::from(number)))
     }
@@ -111,10 +101,10 @@ impl Machine {
     /// Registers from an address on, two bytes each.
     fn registers(&self, address: u16, quantity: u16) -> Result<Vec<u8>, u8> {
         if quantity == 0 || quantity > 33 {
-            return Err(BAD_VALUE);
+            return Err(ILLEGAL_VALUE);
         }
         if address + quantity - 1 > LAST_REGISTER {
-            return Err(BAD_ADDRESS);
+            return Err(ILLEGAL_ADDRESS);
         }
         let all = (1..=ALARM_FILE).flat_map(|file| {
             [
@@ -134,10 +124,10 @@ impl Machine {
     fn set_requested(&mut self, address: u16, value: u16) -> Result<(), u8> {
         let file = (1..=ALARM_FILE).find(|&f| 3703 + 3 * (f - 1) == usize::from(address));
         let Some(file) = file else {
-            return Err(BAD_ADDRESS);
+            return Err(ILLEGAL_ADDRESS);
         };
         if !(1..=self.laid_out_n(file)).contains(&value) {
-            return Err(BAD_VALUE);
+            return Err(ILLEGAL_VALUE);
         }
         self.requested[file - 1] = value;
         Ok(())

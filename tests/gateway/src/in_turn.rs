@@ -1,0 +1,134 @@
+//! Polls in turn on one gateway: every address, run of registers, record, length of frame, function, unit and length of reply
+//! buffer, and frames with each bit wrong.
+
+use gateway::frames::{resized, Frame};
+use gateway::rows::{limit_of, requested_register, RECORD_ROWS};
+use gateway::states::good_groups;
+use model::frames::request;
+use model::layout::{ALARM_FILE, USER_FILES};
+use model::machine::{FIRST_REGISTER, LAST_REGISTER, LEAST_ARCHIVE, LEAST_REPLY};
+use model::points::LONGEST_RECORD;
+use reader::random::Random;
+
+use crate::calls::Call;
+use crate::lists::{List, NEVER};
+use crate::tally::Tally;
+
+/// The n of files 1 to 10.
+const LIMITS: [u16; USER_FILES] = [3, 1, 0, 2, 9, 5, 4, 7, 6, 8];
+const ARCHIVE: usize = LEAST_ARCHIVE + 45 * LONGEST_RECORD;
+const UNIT: u8 = 17;
+const SCANS: usize = 400;
+const READ: u8 = 3;
+const WRITE: u8 = 6;
+
+/// A running gateway whose files have all gone round, but for the idle one and the alarm file.
+fn prepared(random: &mut Random, tally: &mut Tally) -> Result<List, String> {
+    let mut list = List::fresh(random, tally, ARCHIVE, UNIT.into())?;
+    let mut calls = vec![Call::Unlock];
+    for (file, limit) in (1..).zip(LIMITS) {
+        calls.push(Call::Define { file, groups: good_groups(random), limit });
+        calls.push(Call::Trigger { file, point: 1801 + 7 * file });
+        calls.push(Call::Alarm { slot: file, point: 1801 + 7 * file, kind: file % 4, transducer: 7101 + file });
+    }
+    calls.push(Call::Start);
+    for call in &calls {
+        list.call(random, tally, call, NEVER)?;
+    }
+    for _ in 0..SCANS {
+        let scan = Call::scan(random, &list.state);
+        list.call(random, tally, &scan, NEVER)?;
+    }
+    for file in 1..=ALARM_FILE as u16 {
+        list.call(random, tally, &Call::asking(UNIT, WRITE, requested_register(file), 1), NEVER)?;
+    }
+    Ok(list)
+}
+
+/// Every address with 0, a number that most files have, one that few have, and one that none has.
+fn addresses() -> impl Iterator<Item = Call> {
+    (0..=u16::MAX).flat_map(|address| {
+        [READ, WRITE]
+            .into_iter()
+            .flat_map(move |function| [0, 1, 3, 9, u16::MAX].map(|number| Call::asking(UNIT, function, address, number)))
+    })
+}
+
+fn registers() -> impl Iterator<Item = Call> {
+    (FIRST_REGISTER - 3..=LAST_REGISTER + 3)
+        .flat_map(|start| (0..=70).chain([u16::MAX]).map(move |quantity| Call::asking(UNIT, READ, start, quantity)))
+}
+
+/// Every record of every file by number, and by requested number after the 06 that sets it, from 0 to past n.
+fn records(list: &List) -> Vec<Call> {
+    let mut polls = Vec::new();
+    for file in 1..=ALARM_FILE as u16 {
+        for k in 0..=limit_of(&list.state, file.into()) + 2 {
+            polls.push(Call::asking(UNIT, WRITE, requested_register(file), k));
+            polls.extend(RECORD_ROWS.map(|(before, _)| Call::asking(UNIT, READ, before + file, k)));
+        }
+    }
+    polls
+}
+
+/// The frames that lengths, units, bits and reply buffers are tried on: a read and a 06 that are answered, the same on an unknown
+/// address, and two other functions.
+fn samples(unit: u8, number: u16) -> [Vec<u8>; 6] {
+    let register = requested_register(1);
+    [(READ, 721), (WRITE, register), (READ, 0), (WRITE, 0), (1, 721), (0x86, register)]
+        .map(|(function, address)| request(unit, function, address, number))
+}
+
+fn poll(frame: Vec<u8>) -> Call {
+    Call::Poll { frame: Frame(frame), room: LEAST_REPLY }
+}
+
+fn lengths() -> impl Iterator<Item = Call> {
+    // each unit asks for another record, so that a 06 which is done is seen
+    [(UNIT, 1), (0, 2), (UNIT + 1, 3)]
+        .into_iter()
+        .flat_map(|(unit, number)| samples(unit, number))
+        .flat_map(|sample| (0..=300).map(move |length| poll(resized(&sample, length, |more| vec![0; more]))))
+}
+
+fn functions() -> impl Iterator<Item = Call> {
+    (0..=255).flat_map(|function| {
+        let right = request(UNIT, function, 721, 2);
+        [4, 7, 8, 9, 256].map(|length| poll(resized(&right, length, |more| vec![0; more])))
+    })
+}
+
+fn units() -> impl Iterator<Item = Call> {
+    (0..=255).flat_map(|unit| samples(unit, 1 + u16::from(unit % 3))).map(poll)
+}
+
+fn wrong_bits() -> impl Iterator<Item = Call> {
+    samples(UNIT, 3).into_iter().flat_map(|sample| {
+        (0..8 * sample.len()).map(move |bit| {
+            let mut frame = sample.clone();
+            frame[bit / 8] ^= 1 << (bit % 8);
+            poll(frame)
+        })
+    })
+}
+
+fn rooms() -> impl Iterator<Item = Call> {
+    (0..=300).flat_map(|room| samples(UNIT, 1 + room as u16 % 3).map(|frame| Call::Poll { frame: Frame(frame), room }))
+}
+
+/// The polls count in a tally of their own: that the random lists see everything must not rest on them.
+pub fn polls_in_turn(random: &mut Random, tally: &mut Tally) -> Result<(), String> {
+    let mut own = Tally::default();
+    let mut list = prepared(random, &mut own)?;
+    let captures = list.captures();
+    if let Some(file) = (0..USER_FILES).find(|&file| LIMITS[file] > 0 && captures[file] <= LIMITS[file].into()) {
+        return Err(format!("file {} of the gateway has not gone round", file + 1));
+    }
+    let records = records(&list);
+    let others = registers().chain(lengths()).chain(functions()).chain(units()).chain(wrong_bits()).chain(rooms());
+    for poll in records.into_iter().chain(others).chain(addresses()) {
+        list.call(random, &mut own, &poll, NEVER)?;
+        tally.polls_in_turn += 1;
+    }
+    list.end()
+}

@@ -1,0 +1,100 @@
+//! The scan that each record was captured from, so that the reply to a poll can be decoded by the reading end and held against what
+//! was scanned: stamp and points against stamp and live table, and no record's bytes against other bytes.
+
+use std::rc::Rc;
+
+use gateway::ffi::State;
+use gateway::rows::{is_read_reply, limit_of, Asked, Request};
+use model::card::EMPTY;
+use model::layout::ALARM_FILE;
+use model::machine::Machine;
+use model::record::Stamp;
+use reader::ffi;
+use reader::read_back::{read_back, same, Given, Kinds};
+
+use crate::sights::Captured;
+
+const BARE_STAMP: [u16; 32] = [0; 32];
+
+struct Scan {
+    table: Vec<u8>,
+    stamp: Stamp,
+}
+
+/// What is known of a record.
+enum Origin<'a> {
+    Captured(&'a Scan),
+    NotYet,
+    /// It stood in archive memory before the list began.
+    Unknown,
+}
+
+/// How often the reading end gave back what was scanned.
+#[derive(Default)]
+pub struct ReadBack {
+    pub records: usize,
+    pub stamps: usize,
+    pub empty: usize,
+    pub kinds: Kinds,
+}
+
+/// For each file the scans of its captures since it was emptied, oldest first; none for a capture from before the list began.
+pub struct Origins {
+    scans: [Vec<Option<Rc<Scan>>>; ALARM_FILE],
+    /// Whether the files were empty when their captures began.
+    from_empty: bool,
+}
+
+impl Origins {
+    pub fn of_empty_files() -> Origins {
+        Origins { scans: Default::default(), from_empty: true }
+    }
+
+    /// The machine's captures so far are what it was taken with.
+    pub fn of_standing(machine: &Machine) -> Origins {
+        let unknown = |index: usize| vec![None; machine.captures(index + 1).len()];
+        Origins { scans: std::array::from_fn(unknown), from_empty: false }
+    }
+
+    /// Takes note of a scan that captured so many records of each file.
+    pub fn note(&mut self, table: &[u8], stamp: Stamp, captured: &Captured) {
+        let scan = Rc::new(Scan { table: table.to_vec(), stamp });
+        for (scans, &records) in self.scans.iter_mut().zip(captured) {
+            scans.extend(std::iter::repeat_n(Some(scan.clone()), records));
+        }
+    }
+
+    /// Record k is the greatest capture j with j - k divisible by n: looked for, and not worked out as the model does.
+    fn of(&self, s: &State, file: usize, k: u16) -> Origin<'_> {
+        let (scans, n) = (&self.scans[file - 1], usize::from(limit_of(s, file)));
+        match (1..=scans.len()).rev().find(|j| j.abs_diff(k.into()).is_multiple_of(n)) {
+            Some(j) => scans[j - 1].as_ref().map_or(Origin::Unknown, |scan| Origin::Captured(scan)),
+            None if self.from_empty => Origin::NotYet,
+            None => Origin::Unknown,
+        }
+    }
+
+    /// The reply to a poll of a record or a stamp, decoded: what was scanned, or Empty where nothing was captured. Alarm records
+    /// have no groups, so of them only stamps are decoded.
+    pub fn read_back(&self, seen: &mut ReadBack, s: &State, frame: &[u8], reply: &[u8]) -> Result<(), String> {
+        let request = Request::of(frame).filter(|_| is_read_reply(reply));
+        let Some(Asked { file, k, is_stamp }) = request.and_then(|request| request.record(s)) else { return Ok(()) };
+        let groups = match (is_stamp, file) {
+            (true, _) => &BARE_STAMP,
+            (false, ALARM_FILE) => return Ok(()),
+            (false, _) => &s.files.layout.groups[32 * (file - 1)..32 * file],
+        };
+        let given = Given { groups, day_first: s.site.day_first, frame: reply };
+        match self.of(s, file, k) {
+            Origin::Unknown => Ok(()),
+            Origin::NotYet => {
+                seen.empty += 1;
+                same("a record not captured", EMPTY.into(), ffi::record(groups, given.day_first, reply).number)
+            }
+            Origin::Captured(scan) => {
+                *(if is_stamp { &mut seen.stamps } else { &mut seen.records }) += 1;
+                read_back(&mut seen.kinds, &given, &scan.table, scan.stamp.into())
+            }
+        }
+    }
+}

@@ -1,0 +1,60 @@
+//! Document 01, "Frames": what requests, read replies and exceptions look
+//! like on the line. Numbers go high byte first, but for the CRC.
+
+use crate::crc::with_crc;
+
+/// Exception codes.
+pub const ILLEGAL_FUNCTION: u8 = 1;
+pub const ILLEGAL_ADDRESS: u8 = 2;
+pub const ILLEGAL_VALUE: u8 = 3;
+
+/// A request: unit, function, address, quantity or value, CRC.
+pub fn request(unit: u8, function: u8, address: u16, number: u16) -> Vec<u8> {
+    let mut body = vec![unit, function];
+    body.extend(address.to_be_bytes());
+    body.extend(number.to_be_bytes());
+    with_crc(body)
+}
+
+/// A read reply: unit, 03, byte count, bytes, CRC.
+pub fn read_reply(unit: u8, data: &[u8]) -> Vec<u8> {
+    let mut body = vec![unit, 3, data.len() as u8];
+    body.extend(data);
+    with_crc(body)
+}
+
+/// An exception: unit, function with its highest bit set, code, CRC.
+pub fn exception(unit: u8, function: u8, code: u8) -> Vec<u8> {
+    with_crc(vec![unit, function | 0x80, code])
+}
+
+/// The number that stands at a place of a frame, high byte first.
+pub fn number_at(frame: &[u8], place: usize) -> u16 {
+    u16::from_be_bytes([frame[place], frame[place + 1]])
+}
+
+#[cfg(test)]
+mod tests {
+    use super::*;
+
+    /// The frames of the published examples, built from their numbers.
+    #[test]
+    fn shapes_are_the_published_ones() {
+        let read = [0x11, 0x03, 0x00, 0x6B, 0x00, 0x03, 0x76, 0x87];
+        assert_eq!(request(17, 3, 107, 3), read);
+        let write = [0x11, 0x06, 0x00, 0x01, 0x00, 0x03, 0x9A, 0x9B];
+        assert_eq!(request(17, 6, 1, 3), write);
+        let data = [0xAE, 0x41, 0x56, 0x52, 0x43, 0x40];
+        let reply = [&[0x11, 0x03, 0x06], &data[..], &[0x49, 0xAD]].concat();
+        assert_eq!(read_reply(17, &data), reply);
+        let told = [0x0A, 0x81, 0x02, 0xB0, 0x53];
+        assert_eq!(exception(10, 1, ILLEGAL_ADDRESS), told);
+        assert_eq!(exception(10, 0x81, ILLEGAL_ADDRESS), told);
+    }
+
+    #[test]
+    fn a_number_is_read_where_a_request_has_it() {
+        let frame = request(17, 6, 3703, 500);
+        assert_eq!((number_at(&frame, 2), number_at(&frame, 4)), (3703, 500));
+    }
+}
