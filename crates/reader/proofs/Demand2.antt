@@ -34,7 +34,7 @@ use Rattle.records.specs.declared.stamp.Stamp.{Stamp}
 use Rattle.records.specs.Stamp.{inRange, stampFrom}
 use Rattle.records.specs.Capture.{capturedPoints, capturedGroup}
 use Rattle.records.specs.Record.{recordOf}
-use Rattle.records.specs.Value.{PointValue, flag, int16, int32, float, text, valueOf, valueInTable, valueInStretch}
+use Rattle.records.specs.Value.{PointValue, flag, int16, int32, float, text, valueOf, tableValue, bytesInTable, valueInTable, valueInStretch}
 use Rattle.records.proofs.Laws.{length-record as record-length}
 use Rattle.records.proofs.Found.{stamp-back, record-not-zero, record-stretch, own-inside, found-value}
 use Rattle.reader.specs.declared.frame.Checked.the-variants as Checked
@@ -42,7 +42,7 @@ use Rattle.reader.specs.Checked.{checkedCard}
 use Rattle.reader.specs.Frame.{isReply, recordPart, recordChecked, replyChecked, frameChecked, stretchChecked, stretchFrom, stretchLength, stretchPart}
 use Rattle.reader.specs.Answers.{answered, pointIn, pointFound, pointValue, recordAnswer, stampAnswer, pointAnswer}
 use Rattle.reader.proofs.Laws.{place-fits, named-is, value-of, flag-of}
-use Rattle.reader.specs.Demand2.{recordReply, toldBy, GetsBack}
+use Rattle.reader.specs.Demand2.{recordReply, toldBy, kindNumber, GetsBack}
 use Rattle.reader.proofs.Told.{numbers-tell, table-fits}
 
 -- ---- Empty is told of zeros, and only of zeros
@@ -98,6 +98,19 @@ answered-done (int16 z) at = refl
 answered-done (int32 z) at = refl
 answered-done (float x) at = refl
 answered-done (text bs) at = refl
+
+-- and its kind is the row's
+answered-kind : (t : List ℕ) (r : Row) (p at : ℕ) → pointAnswer (answered (valueInTable t r p) at) .kind ≡ kindNumber (r .kind)
+unfolding valueInTable
+answered-kind t r p at = go (r .kind)
+  where
+    go : (k : Kind) → pointAnswer (answered (tableValue k (bytesInTable t r p)) at) .kind ≡ kindNumber k
+    go Boolean = refl
+    go Int16 = refl
+    go Text8 = refl
+    go Int32 = refl
+    go Float = refl
+    go Text16 = refl
 
 module _ (unit size : ℕ) (d : Bool) (s : Stamp) (t gs : List ℕ)
     (ours : within 1 247 unit ≡ true) (good : judged gs ≡ Good size) (table : length t ≡ tableBytes) (bytes : Bytes t) (dated : inRange s ≡ true) where
@@ -187,7 +200,7 @@ module _ (unit size : ℕ) (d : Bool) (s : Stamp) (t gs : List ℕ)
 
       -- the answer in numbers
       point-back : let answer = pointAnswer (pointValue gs d (recordReply unit d s t gs) g e) in
-          (answer .number ≡ doneNo) × (toldBy (recordReply unit d s t gs) answer ≡ valueInTable t r (p + (e - 1)))
+          (answer .number ≡ doneNo) × (answer .kind ≡ kindNumber (r .kind)) × (toldBy (recordReply unit d s t gs) answer ≡ valueInTable t r (p + (e - 1)))
       unfolding p n
       point-back =
           let v = valueInTable t r (p + (e - 1)) in
@@ -195,6 +208,7 @@ module _ (unit size : ℕ) (d : Bool) (s : Stamp) (t gs : List ℕ)
           let size = lookup-size p r (group-inside p n r is .0) in
           let fits = table-fits t r (p + (e - 1)) bytes size (own-inside t r p n (e - 1) table is (omega arith)) in (
             ap (λ x. pointAnswer x .number) value-back ∙ answered-done v at,
+            ap (λ x. pointAnswer x .kind) value-back ∙ answered-kind t r (p + (e - 1)) at,
             ap (λ x. toldBy (recordReply unit d s t gs) (pointAnswer x)) value-back ∙ numbers-tell (recordReply unit d s t gs) v at fits words-back,
           )
 

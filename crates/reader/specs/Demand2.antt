@@ -7,6 +7,8 @@ use lib.Dec.{eqb}
 use lib.ListN.{take, drop}
 use Rattle.basics.specs.Card.{doneCard, doneNo}
 use Rattle.modbus.specs.Frame.{readReply}
+use Rattle.points.specs.declared.table.Kind.{Kind}
+use Rattle.points.specs.declared.table.Kind.the-variants.{Boolean, Int16, Text8, Int32, Float, Text16}
 use Rattle.points.specs.declared.table.Row.{Row}
 use Rattle.points.specs.declared.groups.Group.the-variants.{Points}
 use Rattle.points.specs.Groups.{groupAt, firstPointAt, countAt}
@@ -25,6 +27,15 @@ toldBy f a =
     (cond (eqb (a .kind) 4) (float (a .bits))
     (text (take (a .length) (drop (a .place) f))))))
 
+-- the number by which C is told a row's kind
+abbrev pub kindNumber : Kind → ℕ
+kindNumber Boolean = 1
+kindNumber Int16 = 2
+kindNumber Int32 = 3
+kindNumber Float = 4
+kindNumber Text8 = 5
+kindNumber Text16 = 5
+
 -- the reply to a poll of a record that a scan captured of table t, stamp s and groups gs
 abbrev pub recordReply : ℕ → Bool → Stamp → List ℕ → List ℕ → List ℕ
 recordReply unit d s t gs = readReply unit (recordOf d s t gs)
@@ -34,7 +45,8 @@ pub record GetsBack (unit size : ℕ) (d : Bool) (s : Stamp) (t gs : List ℕ) :
   pub whole : recordAnswer gs d (recordReply unit d s t gs) ≡ partAnswer doneCard 3 size
   -- the stamp comes back
   pub stamp : stampAnswer gs d (recordReply unit d s t gs) ≡ stampTold doneCard s
-  -- at every place and point the answer is done, and its numbers tell the kind and value of that point in the table
+  -- at every place and point the answer is done, its kind is the row's, and its numbers tell the value of that point in the table
   pub point : (g e : ℕ) (r : Row) → 1 ≤ g → g ≤ 16 → groupAt gs (g - 1) ≡ Points r → 1 ≤ e → e ≤ countAt gs (g - 1) →
       let answer = pointAnswer (pointValue gs d (recordReply unit d s t gs) g e) in
-      (answer .number ≡ doneNo) × (toldBy (recordReply unit d s t gs) answer ≡ valueInTable t r (firstPointAt gs (g - 1) + (e - 1)))
+      (answer .number ≡ doneNo) × (answer .kind ≡ kindNumber (r .kind))
+      × (toldBy (recordReply unit d s t gs) answer ≡ valueInTable t r (firstPointAt gs (g - 1) + (e - 1)))
