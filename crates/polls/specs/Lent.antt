@@ -64,7 +64,7 @@ SetsFile (StampOnly f k) = Unit {0}
 SetsFile (Registers i q) = Unit {0}
 SetsFile (SetRequested f x) = f < allFiles
 
--- and the frame that asks it has a function, and where it is echoed no more bytes than a reply buffer
+-- what is asked has passed its checks, and its frame has a function and, as it may be echoed, no more bytes than a reply buffer
 pub record LentAsked (limit : ℕ → ℕ) (frame : List ℕ) (asked : Asked) : Type 0 where
   pub passed : Passed limit asked
   pub some : 4 ≤ length frame
