@@ -1,5 +1,6 @@
 // What site drivers in C link: include/windrow_reader.h has the same functions with their comments for C.
 ghost use mathlib.Core.Path.{_≡_};
+ghost use Rattle.modbus.specs.Crc.{crcOf};
 ghost use Rattle.reader.specs.Answers.{recordAnswer, stampAnswer, stretchAnswer, plainAnswer, pointAnswer, pointValue};
 use crate::answers::PartAnswer;
 use crate::answers::PointAnswer;
@@ -15,6 +16,7 @@ use crate::stretch::stretch_of;
 use crate::value::bits_of;
 use crate::value::point_of;
 use basics::card;
+use modbus::crc::crc_of;
 use records::stamp::Stamp;
 use records::stamp::stamp_from;
 
@@ -152,4 +154,12 @@ pub extern "C" fn windrow_reader_point(
     ensures { λ r. ⌜ r ≡ pointAnswer (pointValue (now (groups .entry)) «day_first» (now (frame .entry)) g e) ⌝ }
 {
     answer_of(point_of(groups, day_first, frame, g, e))
+}
+
+// The CRC of a request that a driver makes, or of any other bytes; a frame carries its low byte first.
+#[no_mangle]
+pub extern "C" fn windrow_reader_crc(bytes: &[u8]) -> u16
+    ensures { λ r. ⌜ r ≡ crcOf (now (bytes .entry)) ⌝ }
+{
+    crc_of(bytes)
 }
