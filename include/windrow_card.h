@@ -1,8 +1,11 @@
 /*
- * windrow_card.h: the numbers of the service card. windrow_reader.h and windrow_gateway.h include it.
+ * windrow_card.h: the numbers of the service card and of Modbus exceptions, with their words. windrow_reader.h and
+ * windrow_gateway.h include it.
  */
 #ifndef WINDROW_CARD_H
 #define WINDROW_CARD_H
+
+#include <stdint.h>
 
 /* The number that a call answers. The lowest that applies is answered; where none applies, the call does its work. */
 enum windrow_card {
@@ -13,17 +16,48 @@ enum windrow_card {
     WINDROW_CLOCK = 4,    /* the stamp is out of range */
     WINDROW_FILE = 5,     /* the file is not 1-10 */
     WINDROW_LOCKED = 6,   /* define while not unlocked */
-    WINDROW_GROUP = 7,    /* a bad group; carried is the first one's place, 1-16, or 0 where there are not 32 numbers */
+    WINDROW_GROUP = 7,    /* a bad group: not (0, 0), and not at least one point, all in one row of the live table; carried is the
+                             first one's place, 1-16, or 0 where there are not 32 numbers */
     WINDROW_LONG = 8,     /* the groups make a record of more than 250 bytes */
     WINDROW_TRIGGER = 9,  /* the trigger is neither 0 nor a Boolean */
     WINDROW_RUNNING = 10, /* unlock while running */
     WINDROW_ROOM = 11,    /* a pending start whose layout exceeds the archive */
     WINDROW_ALARM = 12,   /* the slot is not 1-32, or an entry of it is bad */
     WINDROW_REPLY = 13,   /* the reply buffer is under 256 bytes */
-    WINDROW_GARBLED = 14, /* no 03 reply of unit 1-247 with a right CRC and a record of this size (as byte count, the frame 5 bytes
-                             longer); or a stamp out of range and the record not all zeros */
+    WINDROW_GARBLED = 14, /* no 03 reply of unit 1-247 with a right CRC and a record of this size (as byte count, the frame 5
+                             bytes longer); or a stamp out of range and the record not all zeros */
     WINDROW_EMPTY = 15,   /* the record is all zeros: nothing has been captured there */
     WINDROW_BEYOND = 16   /* the place or the point asked for names nothing */
 };
+
+/* The service card's word for a number; "Done" for 0, and "Unknown" for a number that is not on the card. */
+static inline const char *windrow_card_word(uint32_t number)
+{
+    static const char *const words[] = {"Done", "Memory", "Foreign", "Table", "Clock", "File", "Locked", "Group", "Long",
+                                        "Trigger", "Running", "Room", "Alarm", "Reply", "Garbled", "Empty", "Beyond"};
+    return number < sizeof words / sizeof words[0] ? words[number] : "Unknown";
+}
+
+/* Exceptions: the third byte of a reply of 5 bytes, whose function has its highest bit set. A gateway answers these three. */
+enum windrow_exception {
+    WINDROW_ILLEGAL_FUNCTION = 1, /* another function than 03 and 06 */
+    WINDROW_ILLEGAL_ADDRESS = 2,  /* no such address, or registers past the last */
+    WINDROW_ILLEGAL_VALUE = 3     /* a frame that is not of 8 bytes; a record's number not 1 to n; 0 or over 33 registers */
+};
+
+/* The Modbus standard's word for an exception; "unknown exception" for a code that a gateway never answers. */
+static inline const char *windrow_exception_word(uint32_t code)
+{
+    switch (code) {
+    case WINDROW_ILLEGAL_FUNCTION:
+        return "illegal function";
+    case WINDROW_ILLEGAL_ADDRESS:
+        return "illegal data address";
+    case WINDROW_ILLEGAL_VALUE:
+        return "illegal data value";
+    default:
+        return "unknown exception";
+    }
+}
 
 #endif

@@ -1,12 +1,26 @@
 /*
- * windrow_reader.h: the reading end, for site drivers. Link libreader.a.
+ * windrow_reader.h: the reading end, for site drivers. Link libwindrow_reader.a (`pkg-config --libs windrow-reader`), or
+ * libreader.a out of the tree that builds it.
  *
- * Every function takes the file's group numbers (32 of them: a first point and a number of points for each of the 16 places), the
- * gateway's date order and a reply frame to a Modbus 03 poll of one record, and answers a struct. `number` is the service card's:
- * 0 is done, anything else a refusal, and then the other fields are 0 but for `carried`. Nothing is allocated, kept or changed, and
- * any length and content of groups and frame is answered. Only a bool that is neither 0 nor 1 must not be handed in, and the
- * pointers must not be null, even with a length of 0. A reply that carries a stamp only (a poll of 750+f or 770+f) is read with 32
- * zeros for the groups.
+ * A driver sends a request (windrow_request makes its 8 bytes) and hands the reply to the functions here. Those on a record take
+ * the file's group numbers (32 of them: a first point and a number of points for each of the 16 places), the gateway's date
+ * order and the reply frame to a Modbus 03 poll of one record, and answer a struct. `number` is the service card's: 0 is done,
+ * anything else a refusal, and then the other fields are 0 but for `carried`, which WINDROW_GROUP (7) sets to the first bad
+ * group's place; windrow_card_word has the number's word. A reply that carries a stamp only (a poll of 750+f or 770+f) is read
+ * with 32 zeros for the groups, a record of the alarm file (file 11) with windrow_read_alarm. An exception is no record and is
+ * refused with WINDROW_GARBLED (14); windrow_reply_exception tells one, windrow_reply_registers reads a reply with registers,
+ * and the reply to a 06 is the request's own 8 bytes.
+ *
+ * A reply tells neither its file, its record's number, its groups nor its date order. Compare frame[0] with the unit that was
+ * asked, and throw away what has come in before each request, a late reply after a time-out too. Other groups of the same size,
+ * and the other date order on days 1 to 12, give wrong values and no refusal. A reply is complete with 5 bytes more than its
+ * third byte says, an exception with 5, and an echo with 8. How to read a file's records oldest first says windrow_limits.h.
+ *
+ * Nothing is allocated, kept or changed, and any length and content of groups and frame is answered. Only a bool that is neither
+ * 0 nor 1 must not be handed in, and the pointers must not be null, even with a length of 0. There is no shared or global data:
+ * calls may run in any threads at the same time. A call needs less than 1 KiB of stack.
+ *
+ * The functions that are declared here without a body are proved; the inline ones stand on them, and are tested.
  */
 #ifndef WINDROW_READER_H
 #define WINDROW_READER_H
@@ -14,25 +28,19 @@
 #include <stdbool.h>
 #include <stddef.h>
 #include <stdint.h>
+#include <string.h>
 
 #include "windrow_card.h" /* of whose numbers the reading end answers 0, 7, 8, 14, 15 and 16 */
+#include "windrow_limits.h"
+#include "windrow_points.h"
 #include "windrow_stamp.h"
+#include "windrow_version.h"
 
 #ifdef __cplusplus
 extern "C" {
 #endif
 
-/* What a point is. */
-enum windrow_kind {
-    WINDROW_NONE = 0,
-    WINDROW_FLAG = 1,  /* bits is 0 or 1 */
-    WINDROW_INT16 = 2, /* bits is the value in 32-bit two's complement: (int32_t)bits */
-    WINDROW_INT32 = 3, /* the same */
-    WINDROW_FLOAT = 4, /* bits is the IEEE pattern: memcpy it into a float */
-    WINDROW_TEXT = 5   /* the text is frame[place] to frame[place + length - 1] */
-};
-
-/* A part of the frame: length bytes from frame[place] on. */
+/* A part of the frame: length bytes from frame[place] on. This place counts the frame's bytes from 0. */
 struct windrow_part {
     uint32_t number;
     uint32_t carried;
@@ -46,7 +54,11 @@ struct windrow_stamp_answer {
     struct windrow_stamp stamp;
 };
 
-/* A point's value: see enum windrow_kind for what bits, place and length mean. */
+/*
+ * A point's value: see enum windrow_kind (windrow_points.h) for what bits, place and length mean; those that its kind does not
+ * use are 0. A text has no zero behind it and may be filled up with zeros: printf("%.*s", (int)p.length, (const char *)frame +
+ * p.place).
+ */
 struct windrow_point {
     uint32_t number;
     uint32_t carried;
@@ -64,13 +76,117 @@ struct windrow_part windrow_reader_record(const uint16_t *groups, size_t group_n
 struct windrow_stamp_answer windrow_reader_stamp(const uint16_t *groups, size_t group_numbers, bool day_first,
                                                  const uint8_t *frame, size_t frame_length);
 
-/* The bytes of place g of the definition, 1-16; an unused place names nothing. */
+/* The bytes of the group in place g of the definition, 1-16; an unused place names nothing. */
 struct windrow_part windrow_reader_stretch(const uint16_t *groups, size_t group_numbers, bool day_first,
                                            const uint8_t *frame, size_t frame_length, uint32_t g);
 
-/* Point e of place g, both counted from 1. */
+/* Point e of the group in place g of the definition, both counted from 1. */
 struct windrow_point windrow_reader_point(const uint16_t *groups, size_t group_numbers, bool day_first,
                                           const uint8_t *frame, size_t frame_length, uint32_t g, uint32_t e);
+
+/* The Modbus CRC of any bytes. A frame ends in that of all its bytes before, low byte first. */
+uint16_t windrow_reader_crc(const uint8_t *bytes, size_t length);
+
+/* The value of a point of kind WINDROW_FLOAT. */
+static inline float windrow_point_float(struct windrow_point point)
+{
+    float value;
+    memcpy(&value, &point.bits, sizeof value);
+    return value;
+}
+
+/* The value of a point of kind WINDROW_INT16 or WINDROW_INT32; of a flag, 0 or 1. */
+static inline int32_t windrow_point_int(struct windrow_point point)
+{
+    int32_t value;
+    memcpy(&value, &point.bits, sizeof value);
+    return value;
+}
+
+/*
+ * Makes a request: function WINDROW_READ with a quantity, or WINDROW_WRITE with a value. windrow_limits.h has the addresses; the
+ * address goes out as it is, with nothing taken off.
+ */
+static inline void windrow_request(uint8_t request[WINDROW_REQUEST_BYTES], uint8_t unit, uint8_t function, uint16_t address,
+                                   uint16_t quantity_or_value)
+{
+    request[0] = unit;
+    request[1] = function;
+    windrow_put_bytes(&request[2], 2, address);
+    windrow_put_bytes(&request[4], 2, quantity_or_value);
+    uint16_t crc = windrow_reader_crc(request, 6);
+    request[6] = (uint8_t)crc;
+    request[7] = (uint8_t)(crc >> 8);
+}
+
+/* Whether a frame ends in its CRC. */
+static inline bool windrow_has_crc(const uint8_t *frame, size_t frame_length)
+{
+    if (frame_length < 4)
+        return false;
+    uint16_t crc = windrow_reader_crc(frame, frame_length - 2);
+    return frame[frame_length - 2] == (uint8_t)crc && frame[frame_length - 1] == crc >> 8;
+}
+
+/* The exception that a frame is, or 0 where it is none with a right CRC. windrow_exception_word has its word. */
+static inline uint32_t windrow_reply_exception(const uint8_t *frame, size_t frame_length)
+{
+    return frame_length == 5 && (frame[1] & 0x80) != 0 && windrow_has_crc(frame, frame_length) ? frame[2] : 0;
+}
+
+/* Takes `count` registers, 1-33, out of a reply to 03; false, and nothing is taken, where it is no reply with so many. */
+static inline bool windrow_reply_registers(const uint8_t *frame, size_t frame_length, uint16_t *registers, size_t count)
+{
+    if (frame_length != 5 + 2 * count || frame[1] != WINDROW_READ || frame[2] != 2 * count || !windrow_has_crc(frame, frame_length))
+        return false;
+    for (size_t i = 0; i < count; i++)
+        registers[i] = (uint16_t)windrow_get_bytes(&frame[WINDROW_RECORD_AT + 2 * i], 2);
+    return true;
+}
+
+/*
+ * A record of the alarm file: the slot's point and type, the point's new bit, the transducer's value (0 where the slot has none),
+ * and turner passes and litres of water at the time. None but the stamp is judged: they are what the record has.
+ */
+struct windrow_alarm_answer {
+    uint32_t number;
+    struct windrow_stamp stamp;
+    uint16_t point;
+    uint8_t type;
+    uint8_t bit;
+    float transducer;
+    int32_t passes, litres;
+};
+
+/*
+ * The groups by which an alarm record is read: it has the shape of two 16-bit points (the point; type and bit), a float and two
+ * 32-bit points.
+ */
+#define WINDROW_ALARM_GROUPS {3001, 1, 3002, 1, 7101, 1, 5101, 2}
+
+/* The alarm record in a reply to 03 on 711 or 731. Refused with 14 or 15. */
+static inline struct windrow_alarm_answer windrow_read_alarm(bool day_first, const uint8_t *frame, size_t frame_length)
+{
+    static const uint16_t groups[WINDROW_GROUP_NUMBERS] = WINDROW_ALARM_GROUPS;
+    struct windrow_alarm_answer alarm;
+    memset(&alarm, 0, sizeof alarm);
+    struct windrow_stamp_answer when = windrow_reader_stamp(groups, WINDROW_GROUP_NUMBERS, day_first, frame, frame_length);
+    alarm.number = when.number;
+    if (when.number != WINDROW_DONE)
+        return alarm;
+    struct windrow_point value[5];
+    static const uint8_t place[5] = {1, 2, 3, 4, 4}, point[5] = {1, 1, 1, 1, 2};
+    for (int i = 0; i < 5; i++)
+        value[i] = windrow_reader_point(groups, WINDROW_GROUP_NUMBERS, day_first, frame, frame_length, place[i], point[i]);
+    alarm.stamp = when.stamp;
+    alarm.point = (uint16_t)value[0].bits;
+    alarm.type = (uint8_t)(value[1].bits >> 8);
+    alarm.bit = (uint8_t)value[1].bits;
+    alarm.transducer = windrow_point_float(value[2]);
+    alarm.passes = windrow_point_int(value[3]);
+    alarm.litres = windrow_point_int(value[4]);
+    return alarm;
+}
 
 #ifdef __cplusplus
 }

@@ -7,7 +7,10 @@
 
 #include <stdint.h>
 
-/* Month 1-12, day 1-31, year 0-99, hour 0-23, minute and second 0-59, whatever the date order. */
+/*
+ * Month 1-12, day 1-31 in every month, year 0-99 (of 2000 to 2099: tm_year - 100), hour 0-23, minute and second 0-59. The fields
+ * stand in this order whatever the date order of the site.
+ */
 struct windrow_stamp {
     uint8_t month;
     uint8_t day;

@@ -1,8 +1,8 @@
 /*
- * A gateway's firmware in C: makes a gateway, defines a file, starts it, sets a trigger and an alarm slot, scans, polls, hands the
- * replies to the reading end, and is refused what the service card refuses; asserts the header's layout. Offsets and sizes are
- * worked out by hand from C's rules for x86-64, and the expected lines are written from document 01; CRCs, those of the requests
- * below too, were worked out by the bit rule in Python. Both headers and both libraries serve one program.
+ * A gateway's firmware in C: makes a gateway, defines a file, starts it, sets a trigger and an alarm slot, scans, polls, hands
+ * the replies to the reading end, and is refused what the service card refuses; asserts the header's layout. Offsets and sizes
+ * are worked out by hand from C's rules for x86-64, and the expected lines are written from document 01; CRCs, those of the
+ * requests below too, were worked out by the bit rule in Python. Both headers and both libraries serve one program.
  */
 #include <assert.h>
 #include <stdio.h>

@@ -1,6 +1,7 @@
 /*
  * A site driver in C: decodes the Omni bulletin's example (floats 7101-7103 and counters 5101-5103, 29 August 2007 11:36:52) and
- * asserts the header's layout. The reply is written out by hand from document 01; its CRC was worked out by the bit rule in Python.
+ * asserts the header's layout. The reply is written out by hand from document 01; its CRC was worked out by the bit rule in
+ * Python.
  */
 #include <assert.h>
 #include <stdio.h>

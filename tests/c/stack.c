@@ -1,7 +1,9 @@
 /*
- * What each exported call needs of stack: it is run on a painted stack of its own, and the deepest byte that it changed is looked
- * for. Counted from the caller's frame on, so with the state that is pushed and the answer that is returned. It fails where a call
- * needs more than LIMIT. docs/PERFORMANCE.md has the figures.
+ * What each exported call needs of stack, and each inline function on it: it is run on a painted stack of its own, and the
+ * deepest byte that it changed is looked for. Counted from the caller's frame on, so with the state that is pushed and the
+ * answer that is returned. It fails where one needs more than its header says, or a proved call of the gateway more than it is
+ * known to: the header's figure has room for the copies of a state that a compiler may make. docs/PERFORMANCE.md has the
+ * figures.
  */
 #define _XOPEN_SOURCE 700
 #include <assert.h>
@@ -12,7 +14,8 @@
 #include "windrow_gateway.h"
 #include "windrow_reader.h"
 
-#define LIMIT 9216
+#define PROVED_STACK_BYTES 9216
+#define READER_STACK_BYTES 1023 /* windrow_reader.h: less than 1 KiB */
 #define PAINT 0xA5
 
 static uint8_t stack[65536];
@@ -23,6 +26,7 @@ static uint8_t archive[36000];
 static uint8_t live[1424];
 static struct windrow_state state;
 static struct windrow_gateway_answer answer;
+static uint32_t number, bad_place, to_send; /* what is answered by pointer */
 static const struct windrow_stamp stamp = {8, 29, 7, 11, 36, 52};
 static const uint16_t floats[32] = {7101, 61};
 
@@ -33,6 +37,8 @@ static struct windrow_poll_answer polled;
 static struct windrow_part part;
 static struct windrow_stamp_answer when;
 static struct windrow_point point;
+static struct windrow_alarm_answer logged;
+static uint16_t crc;
 
 /* Each call by itself, with arguments that take it through all its work. */
 static void fresh(void) { answer = windrow_gateway_fresh(false, 17, archive, sizeof archive); }
@@ -52,6 +58,24 @@ static void record(void) { part = windrow_reader_record(floats, 32, false, frame
 static void stamped(void) { when = windrow_reader_stamp(floats, 32, false, frame, polled.length); }
 static void stretch(void) { part = windrow_reader_stretch(floats, 32, false, frame, polled.length, 1); }
 static void decode(void) { point = windrow_reader_point(floats, 32, false, frame, polled.length, 1, 61); }
+static void check_bytes(void) { crc = windrow_reader_crc(frame, polled.length); }
+static void ask_alarm(void) { windrow_request(request, 17, WINDROW_READ, WINDROW_NUMBERED_RECORD + WINDROW_ALARM_FILE, 1); }
+static void read_alarm(void) { logged = windrow_read_alarm(false, frame, polled.length); }
+
+/* The same with the state by pointer. */
+static void fresh_at(void) { number = windrow_fresh(&state, false, 17, archive, sizeof archive); }
+static void unlock_at(void) { number = windrow_unlock(&state, archive, sizeof archive); }
+static void lock_at(void) { number = windrow_lock(&state, archive, sizeof archive); }
+static void stop_at(void) { number = windrow_stop(&state, archive, sizeof archive); }
+static void start_at(void) { number = windrow_start(&state, archive, sizeof archive); }
+static void define_at(void) { number = windrow_define(&state, archive, sizeof archive, 10, floats, 9, &bad_place); }
+static void trigger_at(void) { number = windrow_trigger(&state, archive, sizeof archive, 10, 1810); }
+static void alarm_at(void) { number = windrow_alarm(&state, archive, sizeof archive, 32, 1928, 0, 7228); }
+static void scan_at(void) { number = windrow_scan(&state, archive, sizeof archive, live, sizeof live, stamp); }
+static void poll_at(void)
+{
+    number = windrow_poll(&state, archive, sizeof archive, request, sizeof request, frame, sizeof frame, &to_send);
+}
 
 static void (*work)(void);
 
@@ -81,21 +105,33 @@ static unsigned depth(void (*call)(void))
 
 static int failures;
 
-static void measure(const char *name, void (*call)(void), uint32_t *number)
+/* The bytes of stack that a call needs, which must be done and within its limit. */
+static unsigned measure(const char *name, void (*call)(void), const uint32_t *answered, unsigned limit)
 {
-    *number = UINT32_MAX;
     unsigned bytes = depth(call);
-    printf("%s: %u bytes of stack\n", name, bytes);
-    if (*number != WINDROW_DONE || bytes > LIMIT) {
-        printf("FAILED: %s answered %u, and may need %u bytes\n", name, (unsigned)*number, (unsigned)LIMIT);
+    if (*answered != WINDROW_DONE || bytes > limit) {
+        printf("FAILED: %s needs %u bytes and answers %u; it may need %u\n", name, bytes, (unsigned)*answered, limit);
         failures++;
     }
+    return bytes;
+}
+
+/* A call both ways, each from the same state. */
+static void both(const char *name, void (*by_value)(void), uint32_t *answered, void (*by_pointer)(void))
+{
+    struct windrow_state before = state;
+    number = UINT32_MAX;
+    unsigned bytes_by_pointer = measure(name, by_pointer, &number, WINDROW_STACK_BYTES);
+    state = before;
+    *answered = UINT32_MAX;
+    unsigned bytes = measure(name, by_value, answered, PROVED_STACK_BYTES);
+    printf("%s: %u bytes of stack, by pointer %u\n", name, bytes, bytes_by_pointer);
 }
 
 /* The state goes on to the next call. */
-static void next(const char *name, void (*call)(void))
+static void next(const char *name, void (*by_value)(void), void (*by_pointer)(void))
 {
-    measure(name, call, &answer.number);
+    both(name, by_value, &answer.number, by_pointer);
     state = answer.state;
 }
 
@@ -112,47 +148,27 @@ static void define_all(void)
 
 static void gateway(void)
 {
-    next("fresh", fresh);
-    next("unlock", unlock);
+    next("fresh", fresh, fresh_at);
+    next("unlock", unlock, unlock_at);
     define_all();
-    next("define", define);
-    next("trigger", trigger);
-    next("alarm", alarm);
-    next("lock", lock);
-    next("start", start);
-    next("first scan", scan);
-    next("quiet scan", scan);
+    next("define", define, define_at);
+    next("trigger", trigger, trigger_at);
+    next("alarm", alarm, alarm_at);
+    next("lock", lock, lock_at);
+    next("start", start, start_at);
+    next("first scan", scan, scan_at);
+    next("quiet scan", scan, scan_at);
     memset(live, 0xFF, 16);
-    next("scan of ten files and 32 alarms", scan);
-    next("stop", stop);
-}
-
-/* The CRC by document 01's bit rule. */
-static unsigned crc_of(const uint8_t *bytes, size_t length)
-{
-    unsigned crc = 0xFFFF;
-    for (size_t i = 0; i < length; i++) {
-        crc ^= bytes[i];
-        for (int turn = 0; turn < 8; turn++)
-            crc = crc & 1 ? (crc >> 1) ^ 0xA001 : crc >> 1;
-    }
-    return crc;
+    next("scan of ten files and 32 alarms", scan, scan_at);
+    next("stop", stop, stop_at);
 }
 
 /* A poll whose reply has this length; the state goes on to the next. */
-static void ask(const char *name, uint8_t function, unsigned address, unsigned number, uint32_t length)
+static void ask(const char *name, uint8_t function, uint16_t address, uint16_t quantity_or_value, uint32_t length)
 {
-    request[0] = 17;
-    request[1] = function;
-    request[2] = (uint8_t)(address >> 8);
-    request[3] = (uint8_t)(address & 0xFF);
-    request[4] = (uint8_t)(number >> 8);
-    request[5] = (uint8_t)(number & 0xFF);
-    unsigned crc = crc_of(request, 6);
-    request[6] = (uint8_t)(crc & 0xFF);
-    request[7] = (uint8_t)(crc >> 8);
-    measure(name, poll, &polled.number);
-    if (polled.length != length) {
+    windrow_request(request, 17, function, address, quantity_or_value);
+    both(name, poll, &polled.number, poll_at);
+    if (polled.length != length || to_send != length) {
         printf("FAILED: %s has a reply of %u bytes\n", name, (unsigned)polled.length);
         failures++;
     }
@@ -169,12 +185,30 @@ static void polls(void)
     ask("poll of a record requested", 3, 701, 0, 255);
 }
 
+static void measure_reader(const char *name, void (*call)(void), uint32_t *answered)
+{
+    *answered = UINT32_MAX;
+    printf("reader's %s: %u bytes of stack\n", name, measure(name, call, answered, READER_STACK_BYTES));
+}
+
+/* A call that answers nothing of the card. */
+static void measure_answerless(const char *name, void (*call)(void))
+{
+    static const uint32_t done = WINDROW_DONE;
+    printf("reader's %s: %u bytes of stack\n", name, measure(name, call, &done, READER_STACK_BYTES));
+}
+
 static void reader(void)
 {
-    measure("reader's record", record, &part.number);
-    measure("reader's stamp", stamped, &when.number);
-    measure("reader's stretch", stretch, &part.number);
-    measure("reader's point", decode, &point.number);
+    measure_reader("record", record, &part.number);
+    measure_reader("stamp", stamped, &when.number);
+    measure_reader("stretch", stretch, &part.number);
+    measure_reader("point", decode, &point.number);
+    measure_answerless("CRC", check_bytes);
+    measure_answerless("request", ask_alarm);
+    poll();
+    state = polled.state;
+    measure_reader("alarm record", read_alarm, &logged.number);
 }
 
 int main(void)

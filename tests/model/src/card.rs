@@ -18,6 +18,32 @@ pub const GARBLED: u8 = 14;
 pub const EMPTY: u8 = 15;
 pub const BEYOND: u8 = 16;
 
+/// The rows of the card: number and word.
+pub const CARD: [(u8, &str); 16] = [
+    (MEMORY, "Memory"),
+    (FOREIGN, "Foreign"),
+    (TABLE, "Table"),
+    (CLOCK, "Clock"),
+    (FILE, "File"),
+    (LOCKED, "Locked"),
+    (GROUP, "Group"),
+    (LONG, "Long"),
+    (TRIGGER, "Trigger"),
+    (RUNNING, "Running"),
+    (ROOM, "Room"),
+    (ALARM, "Alarm"),
+    (REPLY, "Reply"),
+    (GARBLED, "Garbled"),
+    (EMPTY, "Empty"),
+    (BEYOND, "Beyond"),
+];
+
+/// The word of a number that is on the card.
+pub fn word(number: u32) -> Option<&'static str> {
+    let row = CARD.iter().find(|row| u32::from(row.0) == number);
+    row.map(|row| row.1)
+}
+
 /// A number of the service card, with what it carries (0 but for Group).
 #[derive(Clone, Copy, Debug, PartialEq, Eq)]
 pub struct Refusal {
@@ -81,6 +107,13 @@ mod tests {
         let entries = [(CLOCK, true), (FOREIGN, true), (MEMORY, false)];
         assert_eq!(lowest(&entries), Err(Refusal::plain(FOREIGN)));
         assert_eq!(Answer::from(lowest(&entries)).number, 2);
+    }
+
+    #[test]
+    fn the_card_counts_from_1_to_16() {
+        assert!(CARD.iter().map(|row| row.0).eq(1..=16));
+        assert_eq!((word(7), word(16)), (Some("Group"), Some("Beyond")));
+        assert_eq!((word(0), word(17), word(256 + 7)), (None, None, None));
     }
 
     #[test]

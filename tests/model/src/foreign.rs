@@ -29,8 +29,12 @@ pub struct RawState {
 }
 
 /// Our unit is 1-247.
+pub const LEAST_UNIT: u8 = 1;
+pub const MOST_UNIT: u8 = 247;
+
+/// Whether a unit is one that may be ours.
 pub fn unit_is_ours(unit: u32) -> bool {
-    (1..=247).contains(&unit)
+    (LEAST_UNIT.into()..=MOST_UNIT.into()).contains(&unit)
 }
 
 /// A slot's entry: a Boolean point or 0, type 0-3, a float point or 0, each

@@ -3,10 +3,31 @@
 
 use crate::crc::with_crc;
 
+/// The functions that are known: 03 reads, 06 writes.
+pub const READ: u8 = 3;
+pub const WRITE: u8 = 6;
+
+/// Unit, function, address (2), quantity or value (2), CRC (2).
+pub const REQUEST_BYTES: usize = 8;
+/// A frame under 4 or over 256 bytes has no reply.
+pub const SHORTEST_FRAME: usize = 4;
+pub const LONGEST_FRAME: usize = 256;
+
 /// Exception codes.
 pub const ILLEGAL_FUNCTION: u8 = 1;
 pub const ILLEGAL_ADDRESS: u8 = 2;
 pub const ILLEGAL_VALUE: u8 = 3;
+
+/// The names of those codes in the MODBUS Application Protocol
+/// Specification V1.1b3, section 7.
+pub fn exception_name(code: u8) -> Option<&'static str> {
+    match code {
+        ILLEGAL_FUNCTION => Some("ILLEGAL FUNCTION"),
+        ILLEGAL_ADDRESS => Some("ILLEGAL DATA ADDRESS"),
+        ILLEGAL_VALUE => Some("ILLEGAL DATA VALUE"),
+        _ => None,
+    }
+}
 
 /// A request: unit, function, address, quantity or value, CRC.
 pub fn request(unit: u8, function: u8, address: u16, number: u16) -> Vec<u8> {
@@ -18,7 +39,7 @@ pub fn request(unit: u8, function: u8, address: u16, number: u16) -> Vec<u8> {
 
 /// A read reply: unit, 03, byte count, bytes, CRC.
 pub fn read_reply(unit: u8, data: &[u8]) -> Vec<u8> {
-    let mut body = vec![unit, 3, data.len() as u8];
+    let mut body = vec![unit, READ, data.len() as u8];
     body.extend(data);
     with_crc(body)
 }

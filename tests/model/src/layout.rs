@@ -4,6 +4,8 @@ use crate::points::{record_size, GROUP_NUMBERS};
 
 /// The files a user defines, 1 to 10.
 pub const USER_FILES: usize = 10;
+/// A user's file holds 0 to 65,535 records.
+pub const MOST_RECORDS: u16 = 65_535;
 /// The alarm file's number. It is laid out last.
 pub const ALARM_FILE: usize = 11;
 /// The alarm file's most records.
@@ -88,7 +90,8 @@ mod tests {
     #[test]
     fn the_largest_layout_does_not_overflow() {
         let groups = groups_from_first_place(&[(7101, 61)]);
-        let files = [Definition { groups, n: 65_535 }; USER_FILES];
+        let n = MOST_RECORDS;
+        let files = [Definition { groups, n }; USER_FILES];
         assert_eq!(layout_bytes(&files), 163_837_500 + 11_000);
     }
 }

@@ -13,7 +13,10 @@ mod scan;
 mod tests;
 
 pub use archive::{newest_capture, pointer_after};
-pub use poll::{FIRST_REGISTER, LAST_REGISTER, LEAST_REPLY};
+pub use poll::{
+    requested_register, FIRST_REGISTER, LAST_REGISTER, LEAST_REPLY, NUMBERED_RECORD,
+    NUMBERED_STAMP, REGISTERS_A_FILE, REQUESTED_RECORD, REQUESTED_STAMP,
+};
 
 use crate::card::{self, lowest, Answer};
 use crate::foreign::{

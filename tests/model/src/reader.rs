@@ -5,13 +5,14 @@ use std::ops::Range;
 use crate::card::{lowest, Refusal, BEYOND, EMPTY, GARBLED, GROUP};
 use crate::crc;
 use crate::foreign::unit_is_ours;
+use crate::frames::READ;
 use crate::points::{
     group_bytes, group_of, judge_definition, Group, Kind, Row, GROUP_NUMBERS, PLACES, STAMP_BYTES,
 };
 use crate::record::Stamp;
 
 /// The record starts at byte 3 of the frame.
-const RECORD_START: usize = 3;
+pub const RECORD_START: usize = 3;
 /// A frame is its record and 5 bytes: unit, function, byte count, CRC.
 const BYTES_AROUND: usize = 5;
 
@@ -34,7 +35,7 @@ fn thirty_two(groups: &[u16]) -> Result<&[u16; GROUP_NUMBERS], Refusal> {
 fn is_reply_of_size(frame: &[u8], size: usize) -> bool {
     frame.len() == size + BYTES_AROUND
         && unit_is_ours(frame[0].into())
-        && frame[1] == 3
+        && frame[1] == READ
         && usize::from(frame[2]) == size
         && crc::checks(frame)
 }

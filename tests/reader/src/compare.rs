@@ -1,8 +1,9 @@
-//! The four calls of the library beside the model's.
+//! The calls of the library beside the model's.
 
 use std::ops::Range;
 
 use model::card::Refusal;
+use model::crc::crc16;
 use model::reader::{self as model_reader, Value};
 use reader::ffi::{self, PartAnswer, PointAnswer, Stamp, StampAnswer};
 use reader::random::Random;
@@ -37,7 +38,7 @@ fn valued(answer: Result<Value, Refusal>) -> PointAnswer {
     }
 }
 
-/// All four calls agree with the model, at indices that go past both ends too. Answers the number that all begin with.
+/// The four calls on a frame agree with the model, at indices that go past both ends too. Answers the number that all begin with.
 pub fn agree(random: &mut Random, tally: &mut Tally, given: &Given) -> Result<u32, String> {
     let Given { groups, day_first, frame } = *given;
     let record = part(model_reader::record(groups, day_first, frame));
@@ -55,4 +56,13 @@ pub fn agree(random: &mut Random, tally: &mut Tally, given: &Given) -> Result<u3
         tally.points[point.number as usize] += 1;
     }
     Ok(record.number)
+}
+
+/// The CRC of 0 to 300 random bytes is the model's.
+pub fn crcs_agree(random: &mut Random, tally: &mut Tally) -> Result<(), String> {
+    let length = if random.chance(50) { 0 } else { random.below(301) as usize };
+    let bytes = random.bytes(length);
+    same("CRC", crc16(&bytes), ffi::crc(&bytes)).map_err(|text| format!("{text}\n{bytes:?}"))?;
+    tally.crcs[usize::from(length > 0) + usize::from(length > 256)] += 1;
+    Ok(())
 }

@@ -1,4 +1,4 @@
-//! The four exported functions of libreader.a.
+//! The five exported functions of libreader.a.
 
 #[repr(C)]
 #[derive(Clone, Copy, Debug, PartialEq, Eq)]
@@ -66,6 +66,7 @@ extern "C" {
         g: u32,
         e: u32,
     ) -> PointAnswer;
+    fn windrow_reader_crc(bytes: *const u8, len: usize) -> u16;
 }
 
 pub fn record(groups: &[u16], day_first: bool, frame: &[u8]) -> PartAnswer {
@@ -82,4 +83,8 @@ pub fn stretch(groups: &[u16], day_first: bool, frame: &[u8], g: u32) -> PartAns
 
 pub fn point(groups: &[u16], day_first: bool, frame: &[u8], g: u32, e: u32) -> PointAnswer {
     unsafe { windrow_reader_point(groups.as_ptr(), groups.len(), day_first, frame.as_ptr(), frame.len(), g, e) }
+}
+
+pub fn crc(bytes: &[u8]) -> u16 {
+    unsafe { windrow_reader_crc(bytes.as_ptr(), bytes.len()) }
 }

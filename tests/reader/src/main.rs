@@ -1,10 +1,10 @@
 //! Every call of libreader.a against the model's reading end, and every decoded point against the live table, on random definitions,
-//! right replies and faulty ones.
+//! right replies and faulty ones; and its CRC against the model's, on random bytes.
 //!
 //!     reader [SEED [ROUNDS]]
 //!
-//! A round has a right reply, a faulty one and a list of another length. Round i is made from SEED + i, so `reader SEED+i 1` repeats
-//! it alone.
+//! A round has a right reply, a faulty one and a list of another length, and 0 to 300 bytes with their CRC. Round i is made from
+//! SEED + i, so `reader SEED+i 1` repeats it alone.
 
 mod compare;
 mod faults;
@@ -19,7 +19,7 @@ use reader::random::{groups, stamp, Random};
 use reader::read_back::{read_back, Given};
 use reader::seeds::{argument, spread, SEED};
 
-use compare::agree;
+use compare::{agree, crcs_agree};
 use faults::{other_length, FAULTS};
 use tally::Tally;
 
@@ -46,7 +46,7 @@ fn round(random: &mut Random, tally: &mut Tally) -> Result<(), String> {
     agree(random, tally, &listed).map_err(|text| format!("{text}\n{listed:?}"))?;
     tally.long_lists += u32::from(is_good && listed.groups.len() > 32);
     tally.short_lists += u32::from(is_good && listed.groups.len() < 32);
-    Ok(())
+    crcs_agree(random, tally)
 }
 
 fn main() {
@@ -67,4 +67,5 @@ fn main() {
         exit(1);
     }
     println!("{} frames agree", 3 * rounds);
+    println!("{} CRCs agree", tally.crcs.iter().sum::<u32>());
 }

@@ -23,6 +23,8 @@ pub struct Tally {
     /// Lists of more than 32 numbers, and of fewer, whose first ones fit the frame.
     pub long_lists: u32,
     pub short_lists: u32,
+    /// How often the CRC was compared of no bytes, of as many as a frame may have, and of more.
+    pub crcs: [u32; 3],
 }
 
 impl Tally {
@@ -36,6 +38,8 @@ impl Tally {
         seen.extend(FAULTS.iter().zip(self.faults).map(|(fault, n)| (format!("{}, told by {}", fault.name, fault.number), n)));
         seen.push(("a list of more than 32 numbers".to_string(), self.long_lists));
         seen.push(("a list of fewer than 32 numbers".to_string(), self.short_lists));
+        let crcs = ["CRC of no bytes", "CRC of up to 256 bytes", "CRC of over 256 bytes"].map(str::to_string);
+        seen.extend(crcs.into_iter().zip(self.crcs));
         seen
     }
 

@@ -5,6 +5,7 @@ use crate::card::{self, lowest, Answer};
 use crate::crc;
 use crate::frames::{
     exception, number_at, read_reply, ILLEGAL_ADDRESS, ILLEGAL_FUNCTION, ILLEGAL_VALUE,
+    LONGEST_FRAME, READ, REQUEST_BYTES, SHORTEST_FRAME, WRITE,
 };
 use crate::layout::ALARM_FILE;
 use crate::points::STAMP_BYTES;
@@ -12,9 +13,27 @@ use crate::points::STAMP_BYTES;
 /// The least length of a lent reply buffer.
 pub const LEAST_REPLY: usize = 256;
 
+/// 03 on one of these + f: the record with the requested number, the record
+/// whose number is the quantity, and likewise the stamp only.
+pub const REQUESTED_RECORD: u16 = 700;
+pub const NUMBERED_RECORD: u16 = 720;
+pub const REQUESTED_STAMP: u16 = 750;
+pub const NUMBERED_STAMP: u16 = 770;
+
 /// The three registers a file: n, pointer, requested.
 pub const FIRST_REGISTER: u16 = 3701;
 pub const LAST_REGISTER: u16 = 3733;
+pub const REGISTERS_A_FILE: u16 = 3;
+
+/// The register of file f that 06 sets: 3703 + 3(f - 1).
+pub fn requested_register(file: usize) -> u16 {
+    3703 + REGISTERS_A_FILE * (file as u16 - 1)
+}
+
+/// The file f, 1 to 11, whose address is base + f.
+fn file_past(base: u16, address: u16) -> Option<usize> {
+    (1..=ALARM_FILE).find(|&f| usize::from(base) + f == usize::from(address))
+}
 
 impl Machine {
     /// Poll. Answers as every call does, and the reply's length (0 for no
@@ -35,13 +54,13 @@ impl Machine {
 
     /// The reply's bytes; none where there is no reply.
     fn reply_to(&mut self, frame: &[u8]) -> Vec<u8> {
-        let whole = (4..=256).contains(&frame.len()) && crc::checks(frame);
-        if !whole {
+        let length_is_good = (SHORTEST_FRAME..=LONGEST_FRAME).contains(&frame.len());
+        if !length_is_good || !crc::checks(frame) {
             return Vec::new();
         }
         let (unit, function) = (frame[0], frame[1]);
         if unit == 0 {
-            if function == 6 {
+            if function == WRITE {
                 let _no_reply_either_way = self.serve(frame);
             }
             return Vec::new();
@@ -58,14 +77,14 @@ impl Machine {
     /// The checks in their order, then the work: a reply or an exception.
     fn serve(&mut self, frame: &[u8]) -> Result<Vec<u8>, u8> {
         let (unit, function) = (frame[0], frame[1]);
-        if function != 3 && function != 6 {
+        if function != READ && function != WRITE {
             return Err(ILLEGAL_FUNCTION);
         }
-        if frame.len() != 8 {
+        if frame.len() != REQUEST_BYTES {
             return Err(ILLEGAL_VALUE);
         }
         let (address, number) = (number_at(frame, 2), number_at(frame, 4));
-        if function == 6 {
+        if function == WRITE {
             self.set_requested(address, number)?;
             return Ok(frame.to_vec());
         }
@@ -74,16 +93,18 @@ impl Machine {
 
     /// Function 03: the data read.
     fn read(&self, address: u16, quantity: u16) -> Result<Vec<u8>, u8> {
-        let file_past = |base: u16| usize::from(address - base);
-        match address {
-            701..=711 => self.record_requested(file_past(700)),
-            721..=731 => self.record_numbered(file_past(720), quantity),
-            751..=761 => self.record_requested(file_past(750)).map(stamp_only),
-            771..=781 => self
-                .record_numbered(file_past(770), quantity)
-                .map(stamp_only),
-            FIRST_REGISTER..=LAST_REGISTER => self.registers(address, quantity),
-            _ => Err(ILLEGAL_ADDRESS),
+        if let Some(file) = file_past(REQUESTED_RECORD, address) {
+            self.record_requested(file)
+        } else if let Some(file) = file_past(NUMBERED_RECORD, address) {
+            self.record_numbered(file, quantity)
+        } else if let Some(file) = file_past(REQUESTED_STAMP, address) {
+            self.record_requested(file).map(stamp_only)
+        } else if let Some(file) = file_past(NUMBERED_STAMP, address) {
+            self.record_numbered(file, quantity).map(stamp_only)
+        } else if (FIRST_REGISTER..=LAST_REGISTER).contains(&address) {
+            self.registers(address, quantity)
+        } else {
+            Err(ILLEGAL_ADDRESS)
         }
     }
 
@@ -122,7 +143,7 @@ impl Machine {
 
     /// Function 06 on 3703 + 3(f - 1).
     fn set_requested(&mut self, address: u16, value: u16) -> Result<(), u8> {
-        let file = (1..=ALARM_FILE).find(|&f| 3703 + 3 * (f - 1) == usize::from(address));
+        let file = (1..=ALARM_FILE).find(|&f| requested_register(f) == address);
         let Some(file) = file else {
             return Err(ILLEGAL_ADDRESS);
         };

@@ -1,0 +1,229 @@
+/*
+ * windrow_points.h: the live table, 1,424 bytes in six rows of points, and accessors that put a value into it and get one out.
+ * windrow_reader.h and windrow_gateway.h include it.
+ *
+ * | kind            | points      | bytes a point | from byte |
+ * |-----------------|-------------|---------------|-----------|
+ * | flag            | 1801-1928   | one bit       | 0         |
+ * | 16-bit signed   | 3001-3064   | 2             | 16        |
+ * | text of 8       | 4001-4032   | 8             | 144       |
+ * | 32-bit signed   | 5101-5164   | 4             | 400       |
+ * | IEEE float      | 7101-7228   | 4             | 656       |
+ * | text of 16      | 14001-14016 | 16            | 1168      |
+ *
+ * Numbers are kept high byte first. Flag 1801 + i is bit i % 8 of byte i / 8, the lowest bit being bit 0. A float is kept bit for
+ * bit, NaNs too. Two points have a meaning of their own, and every alarm record carries them: 5101 counts turner passes, 5102
+ * litres of water.
+ *
+ * Every accessor answers whether the point is of its kind; if not, it changes nothing. Look at the answer: a value that is put to
+ * no point is lost. A table is WINDROW_TABLE_BYTES bytes.
+ */
+#ifndef WINDROW_POINTS_H
+#define WINDROW_POINTS_H
+
+#include <stdbool.h>
+#include <stddef.h>
+#include <stdint.h>
+#include <string.h>
+
+#include "windrow_limits.h"
+
+/* The rows: first and last point, and the byte of the table where the first one starts. */
+#define WINDROW_FIRST_FLAG 1801
+#define WINDROW_LAST_FLAG 1928
+#define WINDROW_FLAGS_AT 0
+#define WINDROW_FIRST_INT16 3001
+#define WINDROW_LAST_INT16 3064
+#define WINDROW_INT16S_AT 16
+#define WINDROW_FIRST_TEXT8 4001
+#define WINDROW_LAST_TEXT8 4032
+#define WINDROW_TEXT8S_AT 144
+#define WINDROW_FIRST_INT32 5101
+#define WINDROW_LAST_INT32 5164
+#define WINDROW_INT32S_AT 400
+#define WINDROW_FIRST_FLOAT 7101
+#define WINDROW_LAST_FLOAT 7228
+#define WINDROW_FLOATS_AT 656
+#define WINDROW_FIRST_TEXT16 14001
+#define WINDROW_LAST_TEXT16 14016
+#define WINDROW_TEXT16S_AT 1168
+
+#define WINDROW_TURNER_PASSES 5101
+#define WINDROW_LITRES_OF_WATER 5102
+
+/* What a point is. The reading end answers the kind with each value, and then bits, place and length mean what stands here. */
+enum windrow_kind {
+    WINDROW_NONE = 0,  /* no point; of a refused value */
+    WINDROW_FLAG = 1,  /* bits is 0 or 1 */
+    WINDROW_INT16 = 2, /* bits is the value in 32-bit two's complement: (int32_t)bits */
+    WINDROW_INT32 = 3, /* the same */
+    WINDROW_FLOAT = 4, /* bits is the IEEE pattern: memcpy it into a float */
+    WINDROW_TEXT = 5   /* the text is frame[place] to frame[place + length - 1] */
+};
+
+/* A row of the live table: its points, the bytes that one takes, 0 standing for one bit, and the byte where the first starts. */
+struct windrow_row {
+    enum windrow_kind kind;
+    uint16_t first, last, size, at;
+};
+
+/* The row that a point is in; of kind WINDROW_NONE where it is in none. */
+static inline struct windrow_row windrow_row_of(uint32_t point)
+{
+    static const struct windrow_row rows[] = {
+        {WINDROW_FLAG, WINDROW_FIRST_FLAG, WINDROW_LAST_FLAG, 0, WINDROW_FLAGS_AT},
+        {WINDROW_INT16, WINDROW_FIRST_INT16, WINDROW_LAST_INT16, 2, WINDROW_INT16S_AT},
+        {WINDROW_TEXT, WINDROW_FIRST_TEXT8, WINDROW_LAST_TEXT8, 8, WINDROW_TEXT8S_AT},
+        {WINDROW_INT32, WINDROW_FIRST_INT32, WINDROW_LAST_INT32, 4, WINDROW_INT32S_AT},
+        {WINDROW_FLOAT, WINDROW_FIRST_FLOAT, WINDROW_LAST_FLOAT, 4, WINDROW_FLOATS_AT},
+        {WINDROW_TEXT, WINDROW_FIRST_TEXT16, WINDROW_LAST_TEXT16, 16, WINDROW_TEXT16S_AT},
+    };
+    static const struct windrow_row none = {WINDROW_NONE, 0, 0, 0, 0};
+    for (size_t i = 0; i < sizeof rows / sizeof rows[0]; i++)
+        if (rows[i].first <= point && point <= rows[i].last)
+            return rows[i];
+    return none;
+}
+
+/*
+ * The bytes of a record with these groups, stamp included; 0 where a group is bad. A group of c flags takes (c + 7) / 8 bytes,
+ * any other c times its point's. A record may have at most WINDROW_LONGEST_RECORD.
+ */
+static inline size_t windrow_record_bytes(const uint16_t groups[WINDROW_GROUP_NUMBERS])
+{
+    size_t bytes = WINDROW_STAMP_BYTES;
+    for (int i = 0; i < WINDROW_GROUP_NUMBERS; i += 2) {
+        uint32_t first = groups[i], count = groups[i + 1];
+        struct windrow_row row = windrow_row_of(first);
+        if (first == 0 && count == 0)
+            continue;
+        if (row.kind == WINDROW_NONE || count == 0 || first + count - 1 > row.last)
+            return 0;
+        bytes += row.kind == WINDROW_FLAG ? (count + 7) / 8 : count * row.size;
+    }
+    return bytes;
+}
+
+/* The table's byte where a point starts, and of a flag the byte that it is in. The row is the point's. */
+static inline size_t windrow_point_at(struct windrow_row row, uint32_t point)
+{
+    return row.size == 0 ? row.at + (point - row.first) / 8 : row.at + (size_t)(point - row.first) * row.size;
+}
+
+/* Numbers of 1 to 4 bytes, high byte first. */
+static inline void windrow_put_bytes(uint8_t *at, size_t size, uint32_t bits)
+{
+    for (size_t i = size; i-- > 0; bits >>= 8)
+        at[i] = (uint8_t)bits;
+}
+
+static inline uint32_t windrow_get_bytes(const uint8_t *at, size_t size)
+{
+    uint32_t bits = 0;
+    for (size_t i = 0; i < size; i++)
+        bits = bits << 8 | at[i];
+    return bits;
+}
+
+static inline bool windrow_put_flag(uint8_t *table, uint32_t point, bool on)
+{
+    struct windrow_row row = windrow_row_of(point);
+    if (row.kind != WINDROW_FLAG)
+        return false;
+    uint8_t *byte = &table[windrow_point_at(row, point)];
+    unsigned bit = 1u << (point - row.first) % 8;
+    *byte = (uint8_t)(on ? *byte | bit : *byte & ~bit);
+    return true;
+}
+
+static inline bool windrow_get_flag(const uint8_t *table, uint32_t point, bool *on)
+{
+    struct windrow_row row = windrow_row_of(point);
+    if (row.kind != WINDROW_FLAG)
+        return false;
+    *on = table[windrow_point_at(row, point)] >> (point - row.first) % 8 & 1;
+    return true;
+}
+
+static inline bool windrow_put_int16(uint8_t *table, uint32_t point, int16_t value)
+{
+    struct windrow_row row = windrow_row_of(point);
+    if (row.kind != WINDROW_INT16)
+        return false;
+    windrow_put_bytes(&table[windrow_point_at(row, point)], row.size, (uint16_t)value);
+    return true;
+}
+
+static inline bool windrow_get_int16(const uint8_t *table, uint32_t point, int16_t *value)
+{
+    struct windrow_row row = windrow_row_of(point);
+    if (row.kind != WINDROW_INT16)
+        return false;
+    *value = (int16_t)windrow_get_bytes(&table[windrow_point_at(row, point)], row.size);
+    return true;
+}
+
+static inline bool windrow_put_int32(uint8_t *table, uint32_t point, int32_t value)
+{
+    struct windrow_row row = windrow_row_of(point);
+    if (row.kind != WINDROW_INT32)
+        return false;
+    windrow_put_bytes(&table[windrow_point_at(row, point)], row.size, (uint32_t)value);
+    return true;
+}
+
+static inline bool windrow_get_int32(const uint8_t *table, uint32_t point, int32_t *value)
+{
+    struct windrow_row row = windrow_row_of(point);
+    if (row.kind != WINDROW_INT32)
+        return false;
+    *value = (int32_t)windrow_get_bytes(&table[windrow_point_at(row, point)], row.size);
+    return true;
+}
+
+static inline bool windrow_put_float(uint8_t *table, uint32_t point, float value)
+{
+    struct windrow_row row = windrow_row_of(point);
+    uint32_t bits;
+    if (row.kind != WINDROW_FLOAT)
+        return false;
+    memcpy(&bits, &value, sizeof bits);
+    windrow_put_bytes(&table[windrow_point_at(row, point)], row.size, bits);
+    return true;
+}
+
+static inline bool windrow_get_float(const uint8_t *table, uint32_t point, float *value)
+{
+    struct windrow_row row = windrow_row_of(point);
+    if (row.kind != WINDROW_FLOAT)
+        return false;
+    uint32_t bits = windrow_get_bytes(&table[windrow_point_at(row, point)], row.size);
+    memcpy(value, &bits, sizeof bits);
+    return true;
+}
+
+/* A text of up to 8 or 16 bytes. A shorter one is filled up with zeros; a longer one is not put, and the answer is false. */
+static inline bool windrow_put_text(uint8_t *table, uint32_t point, const char *text)
+{
+    struct windrow_row row = windrow_row_of(point);
+    size_t length = strlen(text);
+    if (row.kind != WINDROW_TEXT || length > row.size)
+        return false;
+    uint8_t *at = &table[windrow_point_at(row, point)];
+    memset(at, 0, row.size);
+    memcpy(at, text, length);
+    return true;
+}
+
+/* The text's 8 or 16 bytes and a zero behind them: 17 bytes hold any. */
+static inline bool windrow_get_text(const uint8_t *table, uint32_t point, char text[17])
+{
+    struct windrow_row row = windrow_row_of(point);
+    if (row.kind != WINDROW_TEXT)
+        return false;
+    memcpy(text, &table[windrow_point_at(row, point)], row.size);
+    text[row.size] = 0;
+    return true;
+}
+
+#endif

@@ -1,0 +1,21 @@
+/*
+ * windrow_version.h: which release these headers and libraries are. windrow_reader.h and windrow_gateway.h include it.
+ *
+ * The libraries are made for x86-64 and the System V calling convention (Linux, the BSDs), by the kit that proves them.
+ */
+#ifndef WINDROW_VERSION_H
+#define WINDROW_VERSION_H
+
+/*
+ * A new major number: programs may have to be changed. A new minor number: there is more to use. A new patch: only the inside
+ * differs. With each, compile and link again.
+ */
+#define WINDROW_VERSION_MAJOR 1
+#define WINDROW_VERSION_MINOR 0
+#define WINDROW_VERSION_PATCH 0
+#define WINDROW_VERSION "1.0.0"
+
+/* The format of struct windrow_state as bytes. Store it beside a state, and hand no state of another format to these libraries. */
+#define WINDROW_STATE_FORMAT 1
+
+#endif

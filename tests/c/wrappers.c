@@ -1,0 +1,315 @@
+/*
+ * The inline functions of the headers, which stand on the proved ones. Every call of the gateway is made both ways, by pointer
+ * and by value, each on a state and an archive of its own: number, state, archive and what else is answered must be the same,
+ * done and refused. A state is stored and taken back. Requests are published ones; alarm records are written by hand from
+ * document 01. The expected lines were written from document 01, and CRCs worked out by the bit rule in Python.
+ */
+#include <assert.h>
+#include <stdio.h>
+#include <string.h>
+
+#include "windrow_gateway.h"
+#include "windrow_reader.h"
+
+#define ARCHIVE 11024 /* the alarm file's 11,000 bytes and two records of 12 bytes */
+#define LENT 0xA5     /* what a reply buffer holds as it is lent */
+
+static const uint16_t watched[WINDROW_GROUP_NUMBERS] = {3001, 1, 5101, 1};            /* 6 + 2 + 4 = 12 bytes */
+static const uint16_t past_the_row[WINDROW_GROUP_NUMBERS] = {3001, 1, 0, 0, 7228, 2}; /* place 3 ends at 7229 */
+static const uint16_t over_long[WINDROW_GROUP_NUMBERS] = {7101, 61, 3001, 1};         /* 252 bytes */
+static const struct windrow_stamp august = {8, 29, 7, 11, 36, 52}, no_month = {0, 29, 7, 11, 36, 52};
+
+/* What the calls by pointer work on, the same for those by value, and the first of the two before the latest call. */
+static struct {
+    struct windrow_state state;
+    uint8_t archive[ARCHIVE];
+} ours, theirs, before;
+
+static uint8_t table[WINDROW_TABLE_BYTES];
+
+/* Prints what a call answered. Both ways have left the same; a refusal has changed nothing, but for fresh's zeros. */
+static void told(const char *call, uint32_t number, uint32_t wanted_number, bool is_fresh)
+{
+    printf("%s: %u %s\n", call, number, windrow_card_word(number));
+    assert(number == wanted_number);
+    assert(memcmp(&ours, &theirs, sizeof ours) == 0);
+    if (number != WINDROW_DONE) {
+        assert(is_fresh || memcmp(&ours.state, &before.state, sizeof ours.state) == 0);
+        assert(memcmp(ours.archive, before.archive, sizeof ours.archive) == 0);
+    }
+    before = ours;
+}
+
+/* A call both ways. */
+static void both(const char *call, uint32_t number, struct windrow_gateway_answer by_value)
+{
+    theirs.state = by_value.state;
+    told(call, number, by_value.number, false);
+}
+
+static void fresh(const char *call, uint32_t unit, size_t length)
+{
+    static const struct windrow_state zeros;
+    uint32_t number = windrow_fresh(&ours.state, true, unit, ours.archive, length);
+    struct windrow_gateway_answer by_value = windrow_gateway_fresh(true, unit, theirs.archive, length);
+    theirs.state = by_value.state;
+    told(call, number, by_value.number, true);
+    if (number != WINDROW_DONE)
+        assert(memcmp(&ours.state, &zeros, sizeof zeros) == 0);
+}
+
+/* A define both ways, and once more where the bad place is not wanted. */
+static void define(const char *call, uint32_t file, const uint16_t groups[WINDROW_GROUP_NUMBERS], uint16_t limit)
+{
+    uint32_t bad_place = 99;
+    struct windrow_state again = ours.state;
+    uint32_t number = windrow_define(&ours.state, ours.archive, ARCHIVE, file, groups, limit, &bad_place);
+    struct windrow_gateway_answer by_value = windrow_gateway_define(theirs.state, theirs.archive, ARCHIVE, file, groups, limit);
+    both(call, number, by_value);
+    assert(bad_place == by_value.carried);
+    printf("bad place %u\n", bad_place);
+    assert(windrow_define(&again, ours.archive, ARCHIVE, file, groups, limit, NULL) == number);
+    assert(memcmp(&again, &ours.state, sizeof again) == 0);
+}
+
+static void set_up(void)
+{
+    memset(&ours, 0xEE, sizeof ours);
+    theirs = before = ours;
+    fresh("fresh with unit 248", 248, ARCHIVE);
+    fresh("fresh with 10,999 bytes", 17, 10999);
+    fresh("fresh", 17, ARCHIVE);
+    define("define while locked", 1, watched, 2);
+    both("unlock with a byte less", windrow_unlock(&ours.state, ours.archive, ARCHIVE - 1),
+         windrow_gateway_unlock(theirs.state, theirs.archive, ARCHIVE - 1));
+    both("unlock", windrow_unlock(&ours.state, ours.archive, ARCHIVE),
+         windrow_gateway_unlock(theirs.state, theirs.archive, ARCHIVE));
+    define("define file 11", 11, watched, 2);
+    define("define past the row", 1, past_the_row, 2);
+    define("define 252 bytes", 1, over_long, 2);
+    define("define three records", 1, watched, 3);
+}
+
+static void start_and_stop(void)
+{
+    both("start without room", windrow_start(&ours.state, ours.archive, ARCHIVE),
+         windrow_gateway_start(theirs.state, theirs.archive, ARCHIVE));
+    define("define two records", 1, watched, 2);
+    both("lock with a byte more", windrow_lock(&ours.state, ours.archive, ARCHIVE + 1),
+         windrow_gateway_lock(theirs.state, theirs.archive, ARCHIVE + 1));
+    both("lock", windrow_lock(&ours.state, ours.archive, ARCHIVE), windrow_gateway_lock(theirs.state, theirs.archive, ARCHIVE));
+    memset(ours.archive, 0xEE, ARCHIVE); /* so that the zeros of the start are seen */
+    memset(theirs.archive, 0xEE, ARCHIVE);
+    both("start", windrow_start(&ours.state, ours.archive, ARCHIVE),
+         windrow_gateway_start(theirs.state, theirs.archive, ARCHIVE));
+    both("unlock while running", windrow_unlock(&ours.state, ours.archive, ARCHIVE),
+         windrow_gateway_unlock(theirs.state, theirs.archive, ARCHIVE));
+    both("stop with a byte less", windrow_stop(&ours.state, ours.archive, ARCHIVE - 1),
+         windrow_gateway_stop(theirs.state, theirs.archive, ARCHIVE - 1));
+    both("stop", windrow_stop(&ours.state, ours.archive, ARCHIVE), windrow_gateway_stop(theirs.state, theirs.archive, ARCHIVE));
+    both("start again", windrow_start(&ours.state, ours.archive, ARCHIVE),
+         windrow_gateway_start(theirs.state, theirs.archive, ARCHIVE));
+}
+
+static void settings(void)
+{
+    both("trigger past the Booleans", windrow_trigger(&ours.state, ours.archive, ARCHIVE, 1, 1929),
+         windrow_gateway_trigger(theirs.state, theirs.archive, ARCHIVE, 1, 1929));
+    both("trigger", windrow_trigger(&ours.state, ours.archive, ARCHIVE, 1, 1803),
+         windrow_gateway_trigger(theirs.state, theirs.archive, ARCHIVE, 1, 1803));
+    both("alarm of type 4", windrow_alarm(&ours.state, ours.archive, ARCHIVE, 32, 1811, 4, 7101),
+         windrow_gateway_alarm(theirs.state, theirs.archive, ARCHIVE, 32, 1811, 4, 7101));
+    both("alarm", windrow_alarm(&ours.state, ours.archive, ARCHIVE, 32, 1811, 2, 7101),
+         windrow_gateway_alarm(theirs.state, theirs.archive, ARCHIVE, 32, 1811, 2, 7101));
+    const struct windrow_slot *slot = &ours.state.settings.slots[31];
+    printf("trigger of file 1: %u; slot 32: point %u type %u transducer %u\n", ours.state.settings.triggers[0], slot->point,
+           slot->type, slot->transducer);
+}
+
+static void scan(const char *call, size_t table_length, struct windrow_stamp stamp)
+{
+    both(call, windrow_scan(&ours.state, ours.archive, ARCHIVE, table, table_length, stamp),
+         windrow_gateway_scan(theirs.state, theirs.archive, ARCHIVE, table, table_length, stamp));
+    printf("pointers %u and %u\n", ours.state.files.pointers[0], ours.state.files.pointers[10]);
+}
+
+static void scans(void)
+{
+    scan("scan of a byte less", sizeof table - 1, august);
+    scan("scan with no month", sizeof table, no_month);
+    scan("first scan", sizeof table, august);
+    assert(windrow_put_flag(table, 1803, true) && windrow_put_flag(table, 1811, true));
+    assert(windrow_put_int16(table, 3001, -5) && windrow_put_int32(table, WINDROW_TURNER_PASSES, 7));
+    scan("scan with both on", sizeof table, august);
+}
+
+static void show(const uint8_t *bytes, size_t length)
+{
+    for (size_t i = 0; i < length; i++)
+        printf(" %02X", bytes[i]);
+    printf("\n");
+}
+
+/* A poll both ways into buffers of this length; the whole of both is compared. */
+static void poll(const char *call, const uint8_t frame[8], size_t reply_length)
+{
+    uint8_t reply[WINDROW_LEAST_REPLY + 44], their_reply[sizeof reply];
+    uint32_t to_send = 99;
+    memset(reply, LENT, sizeof reply);
+    memset(their_reply, LENT, sizeof their_reply);
+    uint32_t number = windrow_poll(&ours.state, ours.archive, ARCHIVE, frame, 8, reply, reply_length, &to_send);
+    struct windrow_poll_answer by_value =
+        windrow_gateway_poll(theirs.state, theirs.archive, ARCHIVE, frame, 8, their_reply, reply_length);
+    theirs.state = by_value.state;
+    told(call, number, by_value.number, false);
+    assert(to_send == by_value.length && memcmp(reply, their_reply, sizeof reply) == 0);
+    printf("requested %u, to send:", ours.state.line.requested[0]);
+    show(reply, to_send);
+}
+
+static void polls(void)
+{
+    static const uint8_t record_1[] = {0x11, 0x03, 0x02, 0xD1, 0x00, 0x01, 0xD7, 0x1B},
+                         request_1[] = {0x11, 0x06, 0x0E, 0x77, 0x00, 0x01, 0xF8, 0x68},
+                         request_3[] = {0x11, 0x06, 0x0E, 0x77, 0x00, 0x03, 0x79, 0xA9},
+                         another_unit[] = {0x12, 0x03, 0x02, 0xD1, 0x00, 0x01, 0xD7, 0x28};
+    poll("request record 1 into a byte less", request_1, WINDROW_LEAST_REPLY - 1);
+    poll("record 1", record_1, WINDROW_LEAST_REPLY);
+    poll("request record 1", request_1, WINDROW_LEAST_REPLY + 44);
+    poll("request record 3 of 2", request_3, WINDROW_LEAST_REPLY);
+    poll("another unit's", another_unit, WINDROW_LEAST_REPLY);
+}
+
+/* Where the five bools stand, worked out by hand as in gateway.c: day first, running, unlocked, pending, scanned. */
+static bool is_bool(size_t place)
+{
+    return place == 5 || (8 <= place && place <= 11);
+}
+
+/* Every byte of a stored state in turn is 0, 1, 2 and 255: only a bool that is neither 0 nor 1 is refused, and nothing is taken. */
+static void stored(void)
+{
+    uint8_t bytes[WINDROW_STATE_BYTES];
+    struct windrow_state back;
+    memcpy(bytes, &ours.state, sizeof bytes);
+    unsigned refused = 0;
+    for (size_t place = 0; place < sizeof bytes; place++)
+        for (int i = 0; i < 4; i++) {
+            static const uint8_t tried[] = {0, 1, 2, 255};
+            uint8_t kept = bytes[place];
+            bytes[place] = tried[i];
+            memcpy(&back, &before.state, sizeof back);
+            bool taken = windrow_state_from_bytes(&back, bytes);
+            assert(taken == !(is_bool(place) && i >= 2));
+            assert(memcmp(&back, taken ? bytes : (const uint8_t *)&before.state, sizeof back) == 0);
+            refused += !taken;
+            bytes[place] = kept;
+        }
+    printf("stored states refused: %u\n", refused);
+    memset(&ours.state, 0, sizeof ours.state);
+    assert(windrow_state_from_bytes(&ours.state, bytes));
+    both("lock the state taken back", windrow_lock(&ours.state, ours.archive, ARCHIVE),
+         windrow_gateway_lock(theirs.state, theirs.archive, ARCHIVE));
+}
+
+/* Simply Modbus' examples of FC01 to FC06, with the numbers that their text gives. The last byte is past the request. */
+static void requests(void)
+{
+    static const struct {
+        uint8_t function;
+        uint16_t address, number;
+    } published[] = {{1, 19, 37}, {2, 196, 22}, {3, 107, 3}, {4, 8, 1}, {5, 172, 0xFF00}, {6, 1, 3}};
+    for (size_t i = 0; i < sizeof published / sizeof published[0]; i++) {
+        uint8_t request[WINDROW_REQUEST_BYTES + 1];
+        memset(request, LENT, sizeof request);
+        windrow_request(request, 17, published[i].function, published[i].address, published[i].number);
+        assert(request[WINDROW_REQUEST_BYTES] == LENT);
+        printf("request:");
+        show(request, WINDROW_REQUEST_BYTES);
+    }
+}
+
+static void read_alarm(const char *what, bool day_first, const uint8_t *frame, size_t length)
+{
+    struct windrow_alarm_answer a = windrow_read_alarm(day_first, frame, length);
+    printf("%s: %s, %u/%u/%02u %02u:%02u:%02u, point %u type %u bit %u, %g, %d passes, %d litres\n", what,
+           windrow_card_word(a.number), a.stamp.day, a.stamp.month, a.stamp.year, a.stamp.hour, a.stamp.minute, a.stamp.second,
+           a.point, a.type, a.bit, (double)a.transducer, (int)a.passes, (int)a.litres);
+}
+
+static void alarms(void)
+{
+    /* 29 August 2007 11:36:52, point 1850, type 3, bit 1, -42.0, 7 passes, -5 litres */
+    static const uint8_t month_first[] = {0x11, 0x03, 0x16, 0x08, 0x1D, 0x07, 0x0B, 0x24, 0x34, 0x07, 0x3A, 0x03, 0x01, 0xC2,
+                                          0x28, 0x00, 0x00, 0x00, 0x00, 0x00, 0x07, 0xFF, 0xFF, 0xFF, 0xFB, 0x8B, 0x69};
+    static const uint8_t day_first[] = {0x11, 0x03, 0x16, 0x1D, 0x08, 0x07, 0x0B, 0x24, 0x34, 0x07, 0x3A, 0x03, 0x01, 0xC2,
+                                        0x28, 0x00, 0x00, 0x00, 0x00, 0x00, 0x07, 0xFF, 0xFF, 0xFF, 0xFB, 0x48, 0x9F};
+    static const uint8_t empty[27] = {[0] = 0x11, [1] = 0x03, [2] = 0x16, [25] = 0xF4, [26] = 0xF6};
+    static const uint8_t exception[] = {0x11, 0x83, 0x03, 0x00, 0xF4};
+    uint8_t damaged[sizeof month_first];
+    memcpy(damaged, month_first, sizeof damaged);
+    damaged[20] ^= 1;
+    read_alarm("month first", false, month_first, sizeof month_first);
+    read_alarm("day first", true, day_first, sizeof day_first);
+    read_alarm("the wrong date order", false, day_first, sizeof day_first);
+    read_alarm("none yet", false, empty, sizeof empty);
+    read_alarm("a damaged one", false, damaged, sizeof damaged);
+    read_alarm("a byte less", false, month_first, sizeof month_first - 1);
+    read_alarm("an exception", false, exception, sizeof exception);
+    read_alarm("nothing", false, exception, 0);
+}
+
+/* Registers by the published reply of Simply Modbus, function 03; what is no such reply gives none. */
+static void replies(void)
+{
+    static const uint8_t three[] = {0x11, 0x03, 0x06, 0xAE, 0x41, 0x56, 0x52, 0x43, 0x40, 0x49, 0xAD};
+    static const uint8_t exception[] = {0x11, 0x83, 0x03, 0x00, 0xF4};
+    uint8_t damaged[sizeof three];
+    uint16_t registers[4] = {1, 2, 3, 4};
+    memcpy(damaged, three, sizeof damaged);
+    damaged[4] ^= 0x80;
+    assert(!windrow_reply_registers(three, sizeof three, registers, 2));
+    assert(!windrow_reply_registers(three, sizeof three, registers, 4));
+    assert(!windrow_reply_registers(damaged, sizeof damaged, registers, 3));
+    assert(!windrow_reply_registers(three, sizeof three - 1, registers, 3));
+    assert(!windrow_reply_registers(exception, sizeof exception, registers, 0));
+    assert(!windrow_reply_registers(three, 0, registers, 3));
+    printf("registers as they were: %u %u %u %u\n", registers[0], registers[1], registers[2], registers[3]);
+    assert(windrow_reply_registers(three, sizeof three, registers, 3));
+    printf("registers: %04X %04X %04X %u\n", registers[0], registers[1], registers[2], registers[3]);
+    printf("exceptions: %u %u %u %u\n", (unsigned)windrow_reply_exception(exception, 5),
+           (unsigned)windrow_reply_exception(exception, 4), (unsigned)windrow_reply_exception(three, sizeof three),
+           (unsigned)windrow_reply_exception(exception, 0));
+    memcpy(damaged, exception, sizeof exception);
+    damaged[2] = 2;
+    printf("exception with a wrong CRC: %u\n", (unsigned)windrow_reply_exception(damaged, sizeof exception));
+}
+
+/* The values of points: a NaN's bits, and numbers of both signs. */
+static void values(void)
+{
+    struct windrow_point point = {0, 0, WINDROW_FLOAT, 0x7FC00001, 0, 0};
+    float not_a_number = windrow_point_float(point);
+    assert(memcmp(&not_a_number, &point.bits, sizeof not_a_number) == 0);
+    point.bits = 0xC2280000;
+    printf("C2280000: %g\n", (double)windrow_point_float(point));
+    point.bits = 0xFFFFFFFB;
+    printf("FFFFFFFB: %d\n", (int)windrow_point_int(point));
+    point.bits = 0x7FFFFFFF;
+    printf("7FFFFFFF: %d\n", (int)windrow_point_int(point));
+}
+
+int main(void)
+{
+    set_up();
+    start_and_stop();
+    settings();
+    scans();
+    polls();
+    stored();
+    requests();
+    alarms();
+    replies();
+    values();
+    return 0;
+}
