@@ -1,0 +1,29 @@
+/* A point's value as a cell of a CSV file. */
+#ifndef CSV_H
+#define CSV_H
+
+#include <stddef.h>
+#include <stdint.h>
+
+#include "windrow_points.h"
+
+/* A value of any kind. */
+struct value {
+    enum windrow_kind kind;
+    int32_t number;      /* flag, 16-bit, 32-bit */
+    float real;          /* float */
+    const uint8_t *text; /* text: length bytes */
+    size_t length;
+};
+
+/* The longest cell: a text of 16 bytes, each written as \xHH, in quotes, and the closing zero. */
+#define CELL_BYTES 67
+
+/*
+ * Writes the value's cell, without a comma. Numbers are plain decimals; a float has 9 digits, which give its pattern back (NaNs
+ * are `nan`). A text stands in quotes without the zeros that fill it up; a quote is doubled, and a backslash or a byte that is
+ * not printable ASCII is \xHH.
+ */
+void cell_of(char cell[CELL_BYTES], struct value value);
+
+#endif

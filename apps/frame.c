@@ -1,0 +1,278 @@
+/* windrow-frame: why a frame is what it is, for support. */
+#include <ctype.h>
+#include <stdbool.h>
+#include <stdio.h>
+#include <stdlib.h>
+#include <string.h>
+
+#include "options.h"
+#include "polling.h"
+#include "report.h"
+#include "settings.h"
+#include "setup.h"
+#include "windrow_gateway.h"
+#include "windrow_reader.h"
+#include "words.h"
+
+static const char help[] =
+    "windrow-frame HEX.. [OPTION..]: says what a Modbus RTU frame is\n"
+    "\n"
+    "HEX are the frame's bytes in hexadecimal, with spaces, commas, colons or 0x between them or nothing: 11 03 02D1 0001 D71B\n"
+    "\n"
+    "  --settings FILE   a gateway's settings: says what it answers to a request, as long as nothing has been captured\n"
+    "  --file F          the frame is a reply with a record of file F, 1-11, or with its stamp: takes it apart by the settings\n"
+    "  --help            this page\n"
+    "\n"
+    "The status is 0 for a frame that is understood, 1 for one that is damaged or refused.\n"
+    "\n";
+
+#define MOST_BYTES 1024
+
+struct frame {
+    uint8_t bytes[MOST_BYTES];
+    size_t length;
+};
+
+static void take_hex(struct frame *frame, const char *word)
+{
+    for (; *word != 0; word++) {
+        if (strchr(" ,:\t\n", *word) != NULL)
+            continue;
+        if (word[0] == '0' && (word[1] == 'x' || word[1] == 'X')) {
+            word++;
+            continue;
+        }
+        char pair[3] = {word[0], word[1], 0};
+        if (!isxdigit((unsigned char)pair[0]) || !isxdigit((unsigned char)pair[1]))
+            misused("`%.2s` is no byte in hexadecimal, which has two digits", word);
+        if (frame->length == MOST_BYTES)
+            misused("a frame has 256 bytes at most");
+        frame->bytes[frame->length++] = (uint8_t)strtoul(pair, NULL, 16);
+        word++;
+    }
+}
+
+static void tell_unit(uint8_t unit)
+{
+    if (unit == 0)
+        printf("unit 0: to every gateway; none answers\n");
+    else
+        printf("unit %u%s\n", unit, unit > WINDROW_MOST_UNIT ? ": not 1-247, so no gateway's" : "");
+}
+
+static bool tell_crc(const struct frame *frame)
+{
+    const uint8_t *last = &frame->bytes[frame->length - 2];
+    uint16_t crc = windrow_reader_crc(frame->bytes, frame->length - 2);
+    uint8_t low = (uint8_t)crc, high = (uint8_t)(crc >> 8);
+    if (last[0] == low && last[1] == high) {
+        printf("CRC right\n");
+        return true;
+    }
+    printf("CRC wrong: the bytes before it make %02X %02X, and %02X %02X is there", low, high, last[0], last[1]);
+    printf("%s\n", last[0] == high && last[1] == low ? ": high byte first, where the low byte comes first" : "");
+    return false;
+}
+
+/* The file whose address this is, 1-11, counted from a base; 0 where it is none. */
+static unsigned file_at(unsigned base, unsigned address)
+{
+    return address > base && address <= base + WINDROW_ALARM_FILE ? address - base : 0;
+}
+
+static void tell_read(unsigned address, unsigned quantity)
+{
+    unsigned file;
+    if ((file = file_at(WINDROW_REQUESTED_RECORD, address)) != 0)
+        printf("as a request: reads file %u's record with the requested number; the quantity, %u, is not looked at\n", file,
+               quantity);
+    else if ((file = file_at(WINDROW_NUMBERED_RECORD, address)) != 0)
+        printf("as a request: reads file %u's record %u\n", file, quantity);
+    else if ((file = file_at(WINDROW_REQUESTED_STAMP, address)) != 0)
+        printf("as a request: reads the stamp of file %u's record with the requested number; the quantity, %u, is not looked at\n",
+               file, quantity);
+    else if ((file = file_at(WINDROW_NUMBERED_STAMP, address)) != 0)
+        printf("as a request: reads the stamp of file %u's record %u\n", file, quantity);
+    else if (address >= WINDROW_FIRST_REGISTER && address <= WINDROW_LAST_REGISTER)
+        printf("as a request: reads %u registers from %u on, which is file %u's %s\n", quantity, address,
+               (address - WINDROW_FIRST_REGISTER) / WINDROW_REGISTERS_A_FILE + 1,
+               (const char *[]){"n", "pointer", "requested number"}[(address - WINDROW_FIRST_REGISTER) % WINDROW_REGISTERS_A_FILE]);
+    else
+        printf("as a request: reads from address %u, which is none of a gateway's\n", address);
+}
+
+static void tell_write(unsigned unit, unsigned address, unsigned value)
+{
+    for (unsigned file = 1; file <= WINDROW_ALARM_FILE; file++) {
+        if (address == WINDROW_REQUESTED_REGISTER(file)) {
+            printf("as a request%s: sets file %u's requested number to %u\n",
+                   unit == 0 ? "" : ", or as the reply that echoes it", file, value);
+            return;
+        }
+    }
+    printf("as a request: writes %u to address %u, which can't be written\n", value, address);
+}
+
+/* A request has 8 bytes. A reply of three bytes has as many. */
+static void tell_request(const struct frame *frame)
+{
+    unsigned address = windrow_get_bytes(&frame->bytes[2], 2), value = windrow_get_bytes(&frame->bytes[4], 2);
+    if (frame->bytes[1] == WINDROW_READ)
+        tell_read(address, value);
+    else if (frame->bytes[1] == WINDROW_WRITE)
+        tell_write(frame->bytes[0], address, value);
+}
+
+static bool tell_exception(const struct frame *frame)
+{
+    if (frame->length == 5)
+        printf("as a reply: exception %u, %s, to function %02X\n", frame->bytes[2], windrow_exception_word(frame->bytes[2]),
+               frame->bytes[1] & 0x7F);
+    else
+        printf("no exception: one has 5 bytes, and this frame %zu\n", frame->length);
+    return frame->length == 5;
+}
+
+/* The data as registers, where it can be. */
+static void tell_registers(const struct frame *frame)
+{
+    uint16_t registers[ALL_FILES * WINDROW_REGISTERS_A_FILE];
+    size_t count = frame->bytes[2] / 2;
+    if (count == 0 || frame->bytes[2] > sizeof registers
+        || !windrow_reply_registers(frame->bytes, frame->length, registers, count))
+        return;
+    printf("as a reply with registers:");
+    for (size_t i = 0; i < count; i++)
+        printf(" %u", registers[i]);
+    printf("\n");
+}
+
+/* Answers whether it is one, or a request. */
+static bool tell_read_reply(const struct frame *frame)
+{
+    size_t count = frame->bytes[2];
+    if (frame->length == count + 5)
+        printf("as a reply: byte count %zu, and as many bytes of data\n", count);
+    else if (frame->length != WINDROW_REQUEST_BYTES)
+        printf("no request: one has 8 bytes; no reply: byte count %zu wants %zu bytes in all, and there are %zu\n", count,
+               count + 5, frame->length);
+    tell_registers(frame);
+    return frame->length == count + 5 || frame->length == WINDROW_REQUEST_BYTES;
+}
+
+/* Answers whether the frame's length is one that its function has. */
+static bool tell_function(const struct frame *frame)
+{
+    uint8_t function = frame->bytes[1];
+    const char *name = function == WINDROW_READ ? ", read" : function == WINDROW_WRITE ? ", write one register" : "";
+    printf("function %02X%s\n", function, function & 0x80 ? ", an exception" : name);
+    if (frame->length == WINDROW_REQUEST_BYTES)
+        tell_request(frame);
+    if (function & 0x80)
+        return tell_exception(frame);
+    if (function == WINDROW_READ)
+        return tell_read_reply(frame);
+    if (function == WINDROW_WRITE && frame->length != WINDROW_REQUEST_BYTES)
+        printf("no request and no reply: both have 8 bytes, and this frame %zu\n", frame->length);
+    return function != WINDROW_WRITE || frame->length == WINDROW_REQUEST_BYTES;
+}
+
+/* The record in the frame, or the stamp alone, by a definition. */
+static bool tell_record(const struct frame *frame, const struct settings *settings, uint32_t number)
+{
+    static struct row row;
+    static const uint16_t stamp_alone[WINDROW_GROUP_NUMBERS] = {0};
+    struct file file = {number, number == WINDROW_ALARM_FILE ? NULL : settings->groups[number - 1]};
+    char text[REFUSAL_TEXT];
+    const char *what = "record";
+    take_reply(&row, file, settings->day_first, frame->bytes, frame->length);
+    if (row.card == WINDROW_GARBLED && row.bytes == WINDROW_STAMP_BYTES) {
+        what = "stamp";
+        file.number = 1; /* of any file but the alarm file */
+        file.groups = stamp_alone;
+        take_reply(&row, file, settings->day_first, frame->bytes, frame->length);
+    }
+    printf("as a %s of file %lu", what, (unsigned long)number);
+    if (row.card != WINDROW_DONE) {
+        printf(": %s\n", refusal_of(text, &row, file, frame->bytes, frame->length));
+        return row.card == WINDROW_EMPTY;
+    }
+    printf(", %lu bytes:\n", (unsigned long)row.bytes);
+    write_headings(stdout, file);
+    printf("\n%s\n", row.text);
+    return true;
+}
+
+static bool explain(const struct frame *frame)
+{
+    printf("%zu bytes", frame->length);
+    if (frame->length < 4 || frame->length > WINDROW_LONGEST_FRAME) {
+        printf(": no frame, since it has under 4 or over 256; a gateway does not answer it\n");
+        return false;
+    }
+    printf("\n");
+    tell_unit(frame->bytes[0]);
+    bool right = tell_crc(frame);
+    return tell_function(frame) && right;
+}
+
+/* Whether every gateway answers a request like this: registers, and what none knows. Records depend on its files. */
+static bool is_answered_alike(const struct frame *frame, uint32_t exception)
+{
+    unsigned address = windrow_get_bytes(&frame->bytes[2], 2);
+    return exception == WINDROW_ILLEGAL_FUNCTION || exception == WINDROW_ILLEGAL_ADDRESS
+           || (frame->bytes[1] == WINDROW_READ && address >= WINDROW_FIRST_REGISTER && address <= WINDROW_LAST_REGISTER);
+}
+
+/* Hands a request to a new gateway, one of the settings where there are any, and says what it answers. */
+static void tell_answer(const struct frame *frame, const struct settings *settings)
+{
+    static uint8_t least[WINDROW_LEAST_ARCHIVE];
+    struct store store = {.archive = least, .archive_length = sizeof least};
+    uint8_t reply[WINDROW_LEAST_REPLY];
+    uint32_t length = 0;
+    if (settings != NULL)
+        setup_fresh(&store, settings);
+    else if (windrow_fresh(&store.state, false, frame->bytes[0], least, sizeof least) != WINDROW_DONE)
+        return; /* no gateway has this unit */
+    if (windrow_poll(&store.state, store.archive, store.archive_length, frame->bytes, frame->length, reply, sizeof reply, &length)
+        != WINDROW_DONE)
+        return;
+    uint32_t exception = windrow_reply_exception(reply, length);
+    const char *who = settings != NULL ? "this gateway" : "a gateway";
+    if (settings == NULL && !is_answered_alike(frame, exception))
+        return;
+    if (length == 0)
+        printf("%s does not answer it\n", who);
+    else if (exception != 0)
+        printf("%s answers it with exception %lu, %s\n", who, (unsigned long)exception, windrow_exception_word(exception));
+    else
+        printf("%s answers it with %lu bytes\n", who, (unsigned long)length);
+}
+
+int main(int count, char **words)
+{
+    static struct frame frame;
+    static struct settings settings;
+    const char *path = NULL, *number = NULL;
+    const struct known_option known[] = {{"--settings", &path, NULL}, {"--file", &number, NULL}, {NULL, NULL, NULL}};
+    const char *const pages[] = {help, settings_help, NULL};
+    report_as("windrow-frame");
+    int plain = options_take(count, words, known, pages);
+    if (plain == 0)
+        misused("a frame in hexadecimal is wanted");
+    uint32_t file = number == NULL ? 0 : option_whole("--file", number, 1, ALL_FILES);
+    if (path == NULL && number != NULL)
+        misused("--file needs --settings");
+    for (int i = 1; i <= plain; i++)
+        take_hex(&frame, words[i]);
+    if (path != NULL)
+        settings_read(&settings, path);
+    bool fine = explain(&frame);
+    if (fine && frame.length == WINDROW_REQUEST_BYTES && (frame.bytes[1] & 0x80) == 0 && file == 0)
+        tell_answer(&frame, path != NULL ? &settings : NULL);
+    if (file != 0)
+        fine = tell_record(&frame, &settings, file) && fine;
+    finish_output();
+    return fine ? EXIT_FINE : EXIT_TROUBLE;
+}

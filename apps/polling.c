@@ -1,0 +1,195 @@
+#include "polling.h"
+
+#include <string.h>
+
+#include "calendar.h"
+#include "csv.h"
+#include "report.h"
+#include "words.h"
+
+/* What came back to a request. */
+enum outcome { ANSWERED, REFUSED_BY_EXCEPTION, NO_ANSWER, GARBLED_ANSWER, OTHERS_ANSWER };
+
+static enum outcome outcome_of(const uint8_t *request, const uint8_t *reply, size_t length)
+{
+    if (length == 0)
+        return NO_ANSWER;
+    if (!windrow_has_crc(reply, length))
+        return GARBLED_ANSWER;
+    if (reply[0] != request[0])
+        return OTHERS_ANSWER;
+    if (windrow_reply_exception(reply, length) != 0 && reply[1] == (request[1] | 0x80))
+        return REFUSED_BY_EXCEPTION;
+    return reply[1] == request[1] ? ANSWERED : GARBLED_ANSWER;
+}
+
+static void tell(enum outcome outcome, const char *what, const uint8_t *request, const uint8_t *reply)
+{
+    switch (outcome) {
+    case ANSWERED:
+        break;
+    case REFUSED_BY_EXCEPTION:
+        complain("%s: the gateway answers exception %u, %s", what, reply[2], windrow_exception_word(reply[2]));
+        break;
+    case NO_ANSWER:
+        complain("%s: no answer in time from unit %u", what, request[0]);
+        break;
+    case GARBLED_ANSWER:
+        complain("%s: the answer is garbled (its CRC or its function is wrong): noise, or another speed or parity?", what);
+        break;
+    case OTHERS_ANSWER:
+        complain("%s: unit %u answers, and unit %u was asked", what, reply[0], request[0]);
+        break;
+    }
+}
+
+static bool is_answer(enum outcome outcome)
+{
+    return outcome == ANSWERED || outcome == REFUSED_BY_EXCEPTION;
+}
+
+/*
+ * Asks until a frame of the right unit and function comes, an exception too, as often as the source wants it tried. An answer
+ * does not say which request it is to, so that after more than one the rest must not be taken for the next poll's.
+ */
+static bool ask(struct source *source, uint16_t address, uint16_t quantity, const char *what, uint8_t reply[WINDROW_LONGEST_FRAME],
+                size_t *length)
+{
+    uint8_t request[WINDROW_REQUEST_BYTES];
+    windrow_request(request, source->unit, WINDROW_READ, address, quantity);
+    enum outcome outcome = NO_ANSWER;
+    int asked;
+    for (asked = 0; asked < source->tries && !is_answer(outcome); asked++) {
+        if (asked > 0 && source->settle != NULL)
+            source->settle(source->self, false);
+        *length = source->exchange(source->self, request, reply);
+        outcome = outcome_of(request, reply, *length);
+    }
+    if (source->settle != NULL && asked > 1 && is_answer(outcome))
+        source->settle(source->self, true);
+    if (!source->quiet)
+        tell(outcome, what, request, reply);
+    return outcome == ANSWERED;
+}
+
+bool poll_registers(struct source *source, struct registers files[ALL_FILES])
+{
+    enum { COUNT = ALL_FILES * WINDROW_REGISTERS_A_FILE };
+    uint8_t reply[WINDROW_LONGEST_FRAME];
+    uint16_t values[COUNT];
+    size_t length;
+    if (!ask(source, WINDROW_FIRST_REGISTER, COUNT, "registers", reply, &length))
+        return false;
+    if (!windrow_reply_registers(reply, length, values, COUNT)) {
+        complain("registers: %u bytes came, and %d were asked for", reply[2], 2 * COUNT);
+        return false;
+    }
+    for (int i = 0; i < ALL_FILES; i++) {
+        const uint16_t *three = &values[WINDROW_REGISTERS_A_FILE * i];
+        files[i].limit = three[0];
+        files[i].pointer = three[1];
+        files[i].requested = three[2];
+    }
+    return true;
+}
+
+/* A point's value in a cell at the row's end. */
+static void add_point(struct row *row, struct windrow_point point, const uint8_t *frame)
+{
+    char cell[CELL_BYTES];
+    struct value value = {(enum windrow_kind)point.kind, windrow_point_int(point), windrow_point_float(point), frame + point.place,
+                          point.length};
+    cell_of(cell, value);
+    size_t used = strlen(row->text);
+    snprintf(row->text + used, sizeof row->text - used, ",%s", cell);
+}
+
+/* Every point of a record, place by place. */
+static void add_points(struct row *row, const uint16_t *groups, bool day_first, const uint8_t *frame, size_t length)
+{
+    for (uint32_t place = 1; place <= WINDROW_PLACES; place++) {
+        for (uint32_t i = 1; i <= groups[2 * place - 1]; i++) {
+            struct windrow_point point = windrow_reader_point(groups, WINDROW_GROUP_NUMBERS, day_first, frame, length, place, i);
+            if (point.number == WINDROW_DONE)
+                add_point(row, point, frame);
+        }
+    }
+}
+
+static void take_alarm(struct row *row, bool day_first, const uint8_t *frame, size_t length)
+{
+    struct windrow_alarm_answer alarm = windrow_read_alarm(day_first, frame, length);
+    row->card = alarm.number;
+    if (alarm.number != WINDROW_DONE)
+        return;
+    char cell[CELL_BYTES];
+    struct value transducer = {WINDROW_FLOAT, 0, alarm.transducer, NULL, 0};
+    row->stamp = alarm.stamp;
+    calendar_text(row->text, row->stamp);
+    cell_of(cell, transducer);
+    snprintf(row->text + CALENDAR_TEXT - 1, sizeof row->text - CALENDAR_TEXT, ",%u,%u,%u,%s,%ld,%ld", alarm.point, alarm.type,
+             alarm.bit, cell, (long)alarm.passes, (long)alarm.litres);
+}
+
+void take_reply(struct row *row, struct file file, bool day_first, const uint8_t *frame, size_t length)
+{
+    row->bytes = length > 2 ? frame[2] : 0;
+    if (file.number == WINDROW_ALARM_FILE) {
+        take_alarm(row, day_first, frame, length);
+        return;
+    }
+    struct windrow_stamp_answer when = windrow_reader_stamp(file.groups, WINDROW_GROUP_NUMBERS, day_first, frame, length);
+    row->card = when.number;
+    if (when.number != WINDROW_DONE)
+        return;
+    row->stamp = when.stamp;
+    calendar_text(row->text, row->stamp);
+    add_points(row, file.groups, day_first, frame, length);
+}
+
+const char *refusal_of(char text[REFUSAL_TEXT], const struct row *row, struct file file, const uint8_t *frame, size_t length)
+{
+    char card[CARD_TEXT];
+    size_t wanted = file.number == WINDROW_ALARM_FILE ? WINDROW_ALARM_BYTES : windrow_record_bytes(file.groups);
+    if (row->card != WINDROW_GARBLED)
+        snprintf(text, REFUSAL_TEXT, "%s", card_text(card, row->card));
+    else if (!windrow_has_crc(frame, length) || frame[1] != WINDROW_READ || length != 5u + frame[2])
+        snprintf(text, REFUSAL_TEXT, "14 Garbled: it is no reply to 03 with a right CRC");
+    else if (row->bytes != wanted)
+        snprintf(text, REFUSAL_TEXT, "14 Garbled: it has %lu bytes, and a record of this definition has %zu",
+                 (unsigned long)row->bytes, wanted);
+    else
+        snprintf(text, REFUSAL_TEXT, "14 Garbled: its stamp is out of range: damaged, or dates in the other order?");
+    return text;
+}
+
+bool poll_record(struct source *source, struct file file, uint16_t number, struct row *row)
+{
+    uint8_t frame[WINDROW_LONGEST_FRAME];
+    char what[64], text[REFUSAL_TEXT];
+    size_t length;
+    snprintf(what, sizeof what, "file %lu, record %u", (unsigned long)file.number, number);
+    if (!ask(source, (uint16_t)(WINDROW_NUMBERED_RECORD + file.number), number, what, frame, &length))
+        return false;
+    take_reply(row, file, source->day_first, frame, length);
+    if (row->card == WINDROW_DONE || row->card == WINDROW_EMPTY)
+        return true;
+    complain("%s: %s", what, refusal_of(text, row, file, frame, length));
+    return false;
+}
+
+void write_headings(FILE *out, struct file file)
+{
+    fputs("stamp", out);
+    if (file.number == WINDROW_ALARM_FILE)
+        fputs(",point,type,bit,transducer,passes,litres", out);
+    else
+        for (int place = 0; place < WINDROW_PLACES; place++)
+            for (uint32_t i = 0; i < file.groups[2 * place + 1]; i++)
+                fprintf(out, ",%lu", (unsigned long)file.groups[2 * place] + i);
+}
+
+uint16_t number_after(uint16_t number, uint32_t steps, uint16_t limit)
+{
+    return (uint16_t)((number + steps - 1) % limit + 1);
+}

@@ -1,0 +1,146 @@
+#include "setup.h"
+
+#include <stdlib.h>
+#include <string.h>
+
+#include "calendar.h"
+#include "report.h"
+#include "words.h"
+
+void setup_refused(const char *what, uint32_t number)
+{
+    char text[CARD_TEXT];
+    give_up("%s is refused: %s", what, card_text(text, number));
+}
+
+/* Refused for a line of the settings. */
+static void want_done(const struct settings *settings, int line, const char *what, uint32_t number)
+{
+    char text[CARD_TEXT];
+    if (number != WINDROW_DONE)
+        give_up("%s:%d: %s is refused: %s", settings->path, line, what, card_text(text, number));
+}
+
+static void make_change(struct store *store, const struct settings *settings, const struct change *change)
+{
+    if (change->what == SET_TRIGGER)
+        want_done(settings, change->line, "this trigger",
+                  windrow_trigger(&store->state, store->archive, store->archive_length, change->index, change->point));
+    else
+        want_done(settings, change->line, "this alarm",
+                  windrow_alarm(&store->state, store->archive, store->archive_length, change->index, change->point, change->type,
+                                change->transducer));
+}
+
+/* Those at a date are tried out on a state that is thrown away, so that a bad one is told now and not in the midst of a season. */
+static void make_changes_at_once(struct store *store, const struct settings *settings)
+{
+    struct store trial = *store;
+    for (size_t i = 0; i < settings->change_count; i++)
+        make_change(settings->changes[i].timed ? &trial : store, settings, &settings->changes[i]);
+}
+
+/* What the files, whose groups are good, and the alarm file take of the archive. */
+static size_t bytes_needed(const struct settings *settings)
+{
+    size_t bytes = (size_t)WINDROW_ALARM_RECORDS * WINDROW_ALARM_BYTES;
+    for (int i = 0; i < WINDROW_FILES; i++)
+        bytes += settings->limits[i] * windrow_record_bytes(settings->groups[i]);
+    return bytes;
+}
+
+/* Unlocked, every file's draft replaced, started: the files are empty then. */
+static void lay_out(struct store *store, const struct settings *settings)
+{
+    struct windrow_state *state = &store->state;
+    uint32_t number = windrow_unlock(state, store->archive, store->archive_length);
+    if (number != WINDROW_DONE)
+        setup_refused("unlock", number);
+    for (uint32_t file = 1; file <= WINDROW_FILES; file++) {
+        uint32_t bad_place;
+        number = windrow_define(state, store->archive, store->archive_length, file, settings->groups[file - 1],
+                                settings->limits[file - 1], &bad_place);
+        if (number == WINDROW_GROUP)
+            give_up("%s:%d: group %lu of file %lu is refused: it is not within one row of the live table (7 Group)", settings->path,
+                    settings->lines[file - 1], (unsigned long)bad_place, (unsigned long)file);
+        want_done(settings, settings->lines[file - 1], "this file", number);
+    }
+    number = windrow_start(state, store->archive, store->archive_length);
+    if (number == WINDROW_ROOM)
+        give_up("%s: the files do not fit the archive of %zu bytes: with the alarm file they need %zu (11 Room)", settings->path,
+                store->archive_length, bytes_needed(settings));
+    if (number != WINDROW_DONE)
+        setup_refused("start", number);
+}
+
+void setup_fresh(struct store *store, const struct settings *settings)
+{
+    store->archive_length = settings->archive_length;
+    store->archive = malloc(store->archive_length + 1);
+    store->scans = 0;
+    if (store->archive == NULL)
+        give_up("there is no memory for an archive of %zu bytes", store->archive_length);
+    uint32_t number = windrow_fresh(&store->state, settings->day_first, settings->unit, store->archive, store->archive_length);
+    if (number == WINDROW_MEMORY)
+        give_up("%s: an archive of %zu bytes is refused: it is not of 11,000 to 1,048,576 (1 Memory)", settings->path,
+                settings->archive_length);
+    if (number == WINDROW_FOREIGN)
+        give_up("%s: unit %lu is refused: it is not 1-247 (2 Foreign)", settings->path, (unsigned long)settings->unit);
+    if (number != WINDROW_DONE)
+        setup_refused("fresh", number);
+    make_changes_at_once(store, settings);
+    lay_out(store, settings);
+}
+
+/* The first file that the settings define otherwise than it is laid out, or 0. */
+static uint32_t first_difference(const struct store *store, const struct settings *settings)
+{
+    const struct windrow_definitions *layout = &store->state.files.layout;
+    for (uint32_t i = 0; i < WINDROW_FILES; i++)
+        if (layout->limits[i] != settings->limits[i]
+            || memcmp(&layout->groups[WINDROW_GROUP_NUMBERS * i], settings->groups[i], sizeof settings->groups[i]) != 0)
+            return i + 1;
+    return 0;
+}
+
+void setup_again(struct store *store, const struct settings *settings, const char *path, bool redefine)
+{
+    uint32_t number = windrow_stop(&store->state, store->archive, store->archive_length);
+    char text[CARD_TEXT];
+    if (number != WINDROW_DONE)
+        give_up("the store %s is refused: %s (windrow-dump %s says more)", path, card_text(text, number), path);
+    const struct windrow_site *site = &store->state.site;
+    if (site->unit != settings->unit || site->day_first != settings->day_first || store->archive_length != settings->archive_length)
+        give_up("the store %s is of a gateway with unit %u, %s dates and %zu bytes of archive; %s says otherwise, and these can't"
+                " be changed",
+                path, site->unit, site->day_first ? "day-first" : "month-first", store->archive_length, settings->path);
+    make_changes_at_once(store, settings);
+    uint32_t other = first_difference(store, settings);
+    if (other != 0 && !redefine)
+        give_up("%s defines file %lu otherwise than the store %s has it; --redefine lays it out anew, which empties every file",
+                settings->path, (unsigned long)other, path);
+    if (store->state.flags.pending && !redefine)
+        give_up("the store %s was left unlocked, so that a start empties every file; --redefine does that", path);
+    if (other != 0 || store->state.flags.pending) {
+        lay_out(store, settings);
+        return;
+    }
+    number = windrow_start(&store->state, store->archive, store->archive_length); /* nothing is pending: it empties nothing */
+    if (number != WINDROW_DONE)
+        setup_refused("start", number);
+}
+
+size_t setup_timed(struct store *store, const struct settings *settings, size_t next, struct windrow_stamp now)
+{
+    if (!calendar_in_range(now))
+        return next;
+    for (; next < settings->change_count; next++) {
+        const struct change *change = &settings->changes[next];
+        if (!change->timed)
+            continue;
+        if (calendar_seconds(change->at) > calendar_seconds(now))
+            break;
+        make_change(store, settings, change);
+    }
+    return next;
+}
