@@ -1,0 +1,220 @@
+"""windrow-frame: requests, replies, exceptions and what is none of them."""
+from frames import exception, frame, reply, request
+from support import FINE, MISUSE, TROUBLE, Case
+
+EXCEPTIONS = (1, "illegal function"), (2, "illegal data address"), (3, "illegal data value"), (4, "unknown exception")
+GARBLED = "as a record of file 1: 14 Garbled: "
+SETTINGS = "unit 17\nfile 1 4 5101:1 4001:1\n"
+
+
+class FrameCase(Case):
+    def told(self, status, data, *lines, words=()):
+        text = data if isinstance(data, str) else data.hex()
+        done = self.expect(status, "", "frame", text, *words)
+        self.assertEqual(done.stderr, "")
+        for line in lines:
+            self.assertIn(line, done.stdout.splitlines())
+        return done.stdout
+
+
+class Requests(FrameCase):
+    def test_record_by_its_number(self):
+        self.told(FINE, "11 03 02D1 0001 D71B", "8 bytes", "unit 17", "CRC right", "function 03, read",
+                  "as a request: reads file 1's record 1")
+
+    def test_record_with_the_requested_number(self):
+        self.told(FINE, request(17, 3, 711, 9),
+                  "as a request: reads file 11's record with the requested number; the quantity, 9, is not looked at")
+
+    def test_stamps(self):
+        self.told(FINE, request(17, 3, 753, 1), 
+                  "as a request: reads the stamp of file 3's record with the requested number; the quantity, 1, is not looked at")
+        self.told(FINE, request(17, 3, 780, 65535), "as a request: reads the stamp of file 10's record 65535")
+
+    def test_registers(self):
+        self.told(FINE, request(17, 3, 3701, 33), "as a request: reads 33 registers from 3701 on, which is file 1's n")
+        self.told(FINE, request(17, 3, 3705, 1), "as a request: reads 1 registers from 3705 on, which is file 2's pointer")
+        self.told(FINE, request(17, 3, 3733, 1),
+                  "as a request: reads 1 registers from 3733 on, which is file 11's requested number")
+
+    def test_write(self):
+        self.told(FINE, request(17, 6, 3733, 5), "function 06, write one register",
+                  "as a request, or as the reply that echoes it: sets file 11's requested number to 5")
+
+    def test_addresses_of_no_gateway(self):
+        for address in 700, 712, 720, 732, 750, 762, 770, 782, 3700, 3734, 0, 65535:
+            self.told(FINE, request(17, 3, address, 1),
+                      "as a request: reads from address %d, which is none of a gateway's" % address)
+            self.told(FINE, request(17, 6, address, 1), "as a request: writes 1 to address %d, which can't be written" % address)
+
+    def test_units(self):
+        self.told(FINE, request(0, 6, 3703, 1), "unit 0: to every gateway; none answers",
+                  "as a request: sets file 1's requested number to 1")
+        self.told(FINE, request(248, 3, 721, 1), "unit 248: not 1-247, so no gateway's")
+
+    def test_other_function(self):
+        self.told(FINE, request(17, 4, 721, 1), "function 04", "a gateway answers it with exception 1, illegal function")
+
+    def test_of_another_length(self):
+        self.told(TROUBLE, frame(b"\x11\x06\x0e\x77\0\1\0"), "CRC right",
+                  "no request and no reply: both have 8 bytes, and this frame 9")
+
+
+class Answers(FrameCase):
+    """What a gateway answers to a request, by document 01; without settings only what all gateways answer alike."""
+
+    ANSWERS = ((4, 721, 1, "exception 1, illegal function"), (3, 712, 1, "exception 2, illegal data address"),
+               (6, 3701, 1, "exception 2, illegal data address"), (3, 3701, 0, "exception 3, illegal data value"),
+               (3, 3701, 34, "exception 3, illegal data value"), (3, 3733, 2, "exception 2, illegal data address"),
+               (3, 3701, 33, "71 bytes"))
+
+    def test_of_any_gateway(self):
+        for function, address, quantity, answer in self.ANSWERS:
+            self.told(FINE, request(9, function, address, quantity), "a gateway answers it with " + answer)
+
+    def test_records_depend_on_the_files(self):
+        for function, address in (3, 721), (3, 701), (3, 771), (3, 751), (6, 3703):
+            self.assertNotIn("a gateway answers", self.told(FINE, request(17, function, address, 1)))
+
+    def test_of_settings(self):
+        self.write("s", SETTINGS)
+        for function, address, quantity, answer in (*self.ANSWERS, (3, 721, 4, "23 bytes"), (3, 771, 4, "11 bytes"),
+                                                    (3, 721, 5, "exception 3, illegal data value"), (6, 3703, 4, "8 bytes"),
+                                                    (3, 701, 1, "exception 3, illegal data value")):
+            self.told(FINE, request(17, function, address, quantity), "this gateway answers it with " + answer,
+                      words=("--settings", "s"))
+
+    def test_of_another_unit_than_the_settings(self):
+        self.write("s", SETTINGS)
+        self.told(FINE, request(18, 3, 3701, 1), "this gateway does not answer it", words=("--settings", "s"))
+
+
+class Replies(FrameCase):
+    def test_registers(self):
+        """The published reply of Simply Modbus, function 03."""
+        self.told(FINE, "11 03 06 AE41 5652 4340 49AD", "as a reply with registers: 44609 22098 17216")
+
+    def test_read(self):
+        self.told(FINE, reply(17, bytes(66)), "71 bytes", "as a reply: byte count 66, and as many bytes of data")
+
+    def test_of_8_bytes_may_be_both(self):
+        out = self.told(FINE, reply(17, b"\0\0\1"), "as a reply: byte count 3, and as many bytes of data")
+        self.assertIn("as a request: ", out)
+
+    def test_wrong_byte_count(self):
+        self.told(TROUBLE, frame(b"\x11\x03\x0a\0\0\0\0"), "CRC right",
+                  "no request: one has 8 bytes; no reply: byte count 10 wants 15 bytes in all, and there are 9")
+
+    def test_exceptions(self):
+        for code, word in EXCEPTIONS:
+            self.told(FINE, exception(17, code), "function 83, an exception",
+                      "as a reply: exception %d, %s, to function 03" % (code, word))
+        self.told(FINE, exception(17, 2, 6), "as a reply: exception 2, illegal data address, to function 06")
+
+    def test_exception_of_another_length(self):
+        self.told(TROUBLE, frame(b"\x11\x83\x02\x00"), "no exception: one has 5 bytes, and this frame 6")
+
+
+class Damaged(FrameCase):
+    def test_crc(self):
+        self.told(TROUBLE, "11 03 02D1 0001 D71C", "CRC wrong: the bytes before it make D7 1B, and D7 1C is there",
+                  "as a request: reads file 1's record 1")
+
+    def test_swapped_crc(self):
+        self.told(TROUBLE, "11 03 02D1 0001 1BD7",
+                  "CRC wrong: the bytes before it make D7 1B, and 1B D7 is there:"
+                  " high byte first, where the low byte comes first")
+
+    def test_too_short(self):
+        for text in "", "11", "11 03", "11 03 02":
+            self.told(TROUBLE, text, "%d bytes: no frame, since it has under 4 or over 256; a gateway does not answer it"
+                      % len(bytes.fromhex(text)))
+
+    def test_of_4_bytes(self):
+        self.told(TROUBLE, frame(b"\x11\x03"), "4 bytes", "CRC right")
+
+    def test_too_long(self):
+        self.told(TROUBLE, bytes(257), "257 bytes: no frame, since it has under 4 or over 256; a gateway does not answer it")
+        self.told(FINE, frame(bytes(254)), "256 bytes", "CRC right")
+
+    def test_far_too_long(self):
+        self.expect(MISUSE, "a frame has 256 bytes at most", "frame", bytes(1025).hex())
+
+
+class Hex(FrameCase):
+    def test_any_spacing(self):
+        wanted = self.told(FINE, "110302D10001D71B")
+        for text in "11:03:02:D1:00:01:D7:1B", "0x11 0x03 0X02,0xD1,0x00 0x01 0xd7 0x1b", "11,03,02,d1,00,01,d7,1b", " 11\t03 02D1\n0001 D71B ":
+            self.assertEqual(self.told(FINE, text), wanted)
+        self.assertEqual(self.expect(FINE, "", "frame", *"11 03 02 D1 00 01 D7 1B".split()).stdout, wanted)
+
+    def test_odd_digits(self):
+        self.expect(MISUSE, "`1 ` is no byte in hexadecimal, which has two digits", "frame", "11 03 02D1 0001 D71 B")
+        self.expect(MISUSE, "`1` is no byte in hexadecimal", "frame", "110302D10001D71B1")
+
+    def test_no_hex(self):
+        for text, told in ("hello", "he"), ("-1", "-1"), ("1 1", "1 "):
+            self.expect(MISUSE, "`%s` is no byte in hexadecimal" % told, "frame", text)
+
+    def test_no_frame(self):
+        self.expect(MISUSE, "a frame in hexadecimal is wanted", "frame")
+
+
+class Records(FrameCase):
+    RECORD = bytes([8, 29, 7, 11, 36, 52]) + b"\xff\xff\xff\xfb" + b'a"b,\x80\0\0\0'
+
+    def setUp(self):
+        super().setUp()
+        self.write("s", SETTINGS)
+
+    def record(self, status, data, *lines, file="1"):
+        return self.told(status, data, *lines, words=("--settings", "s", "--file", file))
+
+    def test_values(self):
+        self.record(FINE, reply(17, self.RECORD), "as a record of file 1, 18 bytes:", "stamp,5101,4001",
+                    '2007-08-29T11:36:52,-5,"a""b,\\x80"')
+
+    def test_day_first(self):
+        self.write("s", SETTINGS + "dates day-first\n")
+        self.record(FINE, reply(17, bytes([29, 8]) + self.RECORD[2:]), '2007-08-29T11:36:52,-5,"a""b,\\x80"')
+
+    def test_empty(self):
+        self.record(FINE, reply(17, bytes(18)), "as a record of file 1: 15 Empty: nothing has been captured there")
+
+    def test_other_size(self):
+        self.record(TROUBLE, reply(17, self.RECORD[:14]), GARBLED + "it has 14 bytes, and a record of this definition has 18")
+
+    def test_stamp_alone(self):
+        """A reply to 751 or 771 has no groups."""
+        self.record(FINE, reply(17, self.RECORD[:6]), "as a stamp of file 1, 6 bytes:", "stamp", "2007-08-29T11:36:52")
+        self.record(FINE, reply(17, self.RECORD[:6]), "as a stamp of file 11, 6 bytes:", "2007-08-29T11:36:52", file="11")
+        self.record(FINE, reply(17, bytes(6)), "as a stamp of file 1: 15 Empty: nothing has been captured there")
+        self.record(TROUBLE, reply(17, bytes([13]) + self.RECORD[1:6]),
+                    "as a stamp of file 1: 14 Garbled: its stamp is out of range: damaged, or dates in the other order?")
+        self.record(FINE, reply(17, self.RECORD[:6]), "as a record of file 2, 6 bytes:", "stamp", "2007-08-29T11:36:52", file="2")
+
+    def test_impossible_stamp(self):
+        self.record(TROUBLE, reply(17, b"\x0d" + self.RECORD[1:]),
+                    GARBLED + "its stamp is out of range: damaged, or dates in the other order?")
+
+    def test_alarm(self):
+        data = bytes([8, 29, 7, 11, 36, 52, 0x07, 0x0D, 2, 1, 0xC2, 0x48, 0, 0]) + b"\0\0\0\7\xff\xff\xff\xff"
+        self.record(FINE, reply(17, data), "as a record of file 11, 22 bytes:", "stamp,point,type,bit,transducer,passes,litres",
+                    "2007-08-29T11:36:52,1805,2,1,-50,7,-1", file="11")
+
+    def test_request_is_no_record(self):
+        self.record(TROUBLE, request(17, 3, 721, 1), GARBLED + "it is no reply to 03 with a right CRC")
+
+    def test_groups_against_the_rule(self):
+        self.write("s", SETTINGS.replace("5101:1", "5101:0"))
+        out = self.record(TROUBLE, reply(17, self.RECORD))
+        self.assertIn("as a record of file 1: 7 Group", out)
+
+    def test_file_needs_settings(self):
+        self.expect(MISUSE, "--file needs --settings", "frame", "11", "--file", "1")
+
+    def test_file_out_of_range(self):
+        self.expect(MISUSE, "--file takes a number from 1 to 11, not `12`", "frame", "11", "--settings", "s", "--file", "12")
+
+    def test_bad_settings(self):
+        self.expect(TROUBLE, "the settings nowhere can't be read", "frame", "11", "--settings", "nowhere", "--file", "1")

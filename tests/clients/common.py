@@ -1,0 +1,132 @@
+"""What every client is tested with, over an adapter that has read, write and other.
+
+An adapter's call answers ("ok", bytes) or ("no", why). These are the whys that a gateway gives, by the names of the standard; a
+client's own, such as a reply that it will not take, are the adapter's.
+"""
+
+from gateway import UNIT
+
+FUNCTION = ("no", "illegal function")
+ADDRESS = ("no", "illegal data address")
+VALUE = ("no", "illegal data value")
+DONE = ("ok", b"")
+
+
+def numbers(*values):
+    """The answer that is these registers."""
+    return ("ok", b"".join(value.to_bytes(2, "big") for value in values))
+
+
+def requested(file):
+    """The register that has a file's requested number."""
+    return 3700 + 3 * file
+
+
+class Checks:
+    """Says of each test how it went, on a line that tests/clients/run counts."""
+
+    def __init__(self, client):
+        self.client = client
+
+    def same(self, text, seen, wanted):
+        """One test: what was seen is what was wanted. Lists are of several polls, and show the first that differs."""
+        if seen == wanted:
+            print(f"{self.client}, {text}: ok", flush=True)
+            return
+        print(f"{self.client}, {text}: FAILED", flush=True)
+        if isinstance(seen, list) and isinstance(wanted, list) and len(seen) == len(wanted):
+            at = next(i for i, pair in enumerate(zip(seen, wanted)) if pair[0] != pair[1])
+            seen, wanted, text = seen[at], wanted[at], f"poll {at + 1}"
+        print(f"  {text}: {str(seen)[:300]}\n  wanted: {str(wanted)[:300]}", flush=True)
+
+
+def registers(checks, client, files):
+    """3701-3733, before any number is requested."""
+    wanted = [value for number in range(1, 12) for value in (files[number].limit, files[number].pointer, 0)]
+    checks.same("registers 3701-3733 at once", client.read(3701, 33), numbers(*wanted))
+    seen = [client.read(3701 + i, 1) for i in range(33)]
+    checks.same("registers 3701-3733 one by one", seen, [numbers(value) for value in wanted])
+    seen = [client.read(701 + i, 3) for i in range(11)]
+    checks.same("a record before one is requested is an illegal data value", seen, [VALUE] * 11)
+
+
+def records(checks, client, files):
+    """Each file of an even record size: every number is requested in turn, but of the long ones some."""
+    for number in (1, 2, 4, 5, 6, 11):
+        file = files[number]
+        tried = [k for k in file.records if k <= 6 or k == file.limit]
+        seen, wanted = [], []
+        for k in tried:
+            seen += [client.write(requested(number), k), client.read(requested(number), 1)]
+            seen += [client.read(700 + number, file.size // 2)]
+            wanted += [DONE, numbers(k), ("ok", file.records[k])]
+        checks.same(f"file {number}: requested by 06, read back, and its records of {file.size} bytes", seen, wanted)
+
+
+def stamps(checks, client, files):
+    """750+f, which is always 3 registers: the odd-sized file 3 too."""
+    seen, wanted = [], []
+    for number in (1, 2, 3, 4, 5, 6, 11):
+        for k in (1, 2):
+            seen += [client.write(requested(number), k), client.read(750 + number, 3)]
+            wanted += [DONE, ("ok", files[number].records[k][:6])]
+    checks.same("stamps on 750+f", seen, wanted)
+
+
+def exceptions(checks, client, files):
+    """By name. Where several could be answered, the order is document 01's."""
+    functions = client.other_functions
+    checks.same(f"another function ({', '.join(functions)}) is an illegal function", [client.other(f) for f in functions],
+                [FUNCTION] * len(functions))
+    reads = [(100, 1), (700, 3), (712, 3), (720, 1), (732, 1), (750, 3), (762, 3), (770, 3), (782, 3)]
+    reads += [(3700, 1), (3734, 1), (3733, 2)]
+    checks.same("03 elsewhere is an illegal data address", [client.read(*poll) for poll in reads], [ADDRESS] * len(reads))
+    writes = [(3701, 1), (3702, 1), (3704, 1), (3732, 1), (3734, 1), (701, 1)]
+    checks.same("06 elsewhere is an illegal data address", [client.write(*poll) for poll in writes], [ADDRESS] * len(writes))
+    seen = [client.write(requested(1), k) for k in (2, 0, 5, 65535)] + [client.read(requested(1), 1)]
+    checks.same("06 with a number not 1..n is an illegal data value, and sets nothing", seen, [DONE] + [VALUE] * 3 + [numbers(2)])
+    beyond = [(720 + f, files[f].limit + 1) for f in (1, 2, 3, 4, 5, 7)] + [(770 + f, files[f].limit + 1) for f in (1, 5, 10)]
+    seen = [client.read(*poll) for poll in beyond]
+    checks.same("03 on 720+f and 770+f beyond n is an illegal data value", seen, [VALUE] * len(beyond))
+    checks.same("over 33 registers is an illegal data value", [client.read(3701, 34), client.read(3701, 125)], [VALUE] * 2)
+
+
+def wrong_unit(checks, client):
+    """Nobody answers: the client's time-out. The right unit answers afterwards."""
+    seen = [client.read(3701, 1, unit=UNIT + 1, hasty=True), client.read(3701, 1)]
+    checks.same("a wrong unit is a time-out", seen, [client.time_out, numbers(4)])
+
+
+def all_can(checks, client, files):
+    """What a client must be able to do."""
+    registers(checks, client, files)
+    records(checks, client, files)
+    stamps(checks, client, files)
+    exceptions(checks, client, files)
+    wrong_unit(checks, client)
+
+
+def unlike_quantity(files):
+    """Polls whose reply has not twice the quantity in bytes: address, quantity, the bytes. File 3 has records of 11 bytes."""
+    polls = [(720 + f, k, files[f].records[k]) for f in (1, 2, 4, 5, 6, 11) for k in (1, 2, 4, 5) if k in files[f].records]
+    polls += [(770 + f, k, files[f].records[k][:6]) for f in (1, 3, 5, 11) for k in (1, 2, 4)]
+    return [poll for poll in polls if len(poll[2]) != 2 * poll[1]]
+
+
+def refusals(checks, client, files):
+    """Replies that a client which counts on twice the quantity refuses. It takes the next one: nothing is left behind."""
+    polls = unlike_quantity(files)
+    seen = [client.read(address, quantity) for address, quantity, _ in polls]
+    checks.same("720+f and 770+f: replies not of twice the quantity are refused", seen, [client.refused] * len(polls))
+    seen = [client.write(requested(3), 2)] + [client.read(703, quantity) for quantity in (5, 6, 11)]
+    checks.same("700+f: a record of 11 bytes is refused", seen, [DONE] + [client.refused] * 3)
+    seen = [client.write(requested(1), 2)] + [client.read(701, quantity) for quantity in (1, 14, 16, 30)]
+    checks.same("700+f: a wrong quantity is refused", seen, [DONE] + [client.refused] * 4)
+    checks.same("after them a record is read", client.read(701, 15), ("ok", files[1].records[2]))
+
+
+def chances(checks, client, files):
+    """The one record and the one stamp of a number that is half their size: these every client reads."""
+    seen = [client.read(725, 16), client.read(771, 3), client.read(773, 3), client.read(724, 3)]
+    wanted = [files[5].records[16], files[1].records[3][:6], files[3].records[3][:6], files[4].records[3]]
+    checks.same("720+f and 770+f: a reply of twice the quantity is read", seen, [("ok", record) for record in wanted])
