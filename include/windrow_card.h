@@ -11,7 +11,9 @@
 enum windrow_card {
     WINDROW_DONE = 0,
     WINDROW_MEMORY = 1,   /* the archive's length is not the state's; fresh: under 11,000 or over 1,048,576 */
-    WINDROW_FOREIGN = 2,  /* a state against the rules, as the zeros of a refused fresh; fresh: the unit is not 1-247 */
+    WINDROW_FOREIGN = 2,  /* a state in which running and unlocked are both on, a definition, trigger or slot is against its rule,
+                             the layout exceeds the archive, a pointer or requested number is over n, or the unit is not 1-247, as
+                             in the zeros of a refused fresh; fresh: the unit */
     WINDROW_TABLE = 3,    /* the live table is not 1,424 bytes */
     WINDROW_CLOCK = 4,    /* the stamp is out of range */
     WINDROW_FILE = 5,     /* the file is not 1-10 */

@@ -22,13 +22,14 @@
  * needs less than 1 KiB (windrow_reader.h).
  *
  * Stored states: keep state and archive together, as of the same moment (in one file, synced and renamed, with a checksum), and
- * WINDROW_STATE_FORMAT with them. fresh, start and scan write the archive; a call other than fresh that leaves every byte of the
- * state as it was has left the archive so too, so it is enough to store when the state has changed. Hand back no state of
- * another format, and take its bytes back through windrow_state_from_bytes, which refuses a bool that is none. The calls judge
- * the rest of a state, but of the archive only its length: damaged bytes, or those of another moment, are not noticed. A poll
- * with a frame of 0 bytes judges a state and changes nothing. Running is stored, so that no start is needed at power-up, and so
- * are the Booleans: the first scan then compares with those of before. Where state.flags.pending is on, a start would empty
- * every file.
+ * WINDROW_STATE_FORMAT with them. fresh, start and scan write the archive; one call other than fresh that leaves every byte of
+ * the state as it was has left the archive so too, so it is enough to store after each call that changed the state. Compare
+ * before and after each call and not with the state stored last: over several calls a file can go round once, and then the
+ * state's bytes are those of before and the archive's are not. Hand back no state of another format, and take its bytes back
+ * through windrow_state_from_bytes, which refuses a bool that is none. The calls judge the rest of a state, but of the archive
+ * only its length: damaged bytes, or those of another moment, are not noticed. A poll with a frame of 0 bytes judges a state and
+ * changes nothing. Running is stored, so that no start is needed at power-up, and so are the Booleans: the first scan then
+ * compares with those of before. Where state.flags.pending is on, a start would empty every file.
  */
 #ifndef WINDROW_GATEWAY_H
 #define WINDROW_GATEWAY_H
@@ -168,10 +169,10 @@ struct windrow_gateway_answer windrow_gateway_alarm(struct windrow_state state, 
 
 /*
  * A scan of the live table, 1,424 bytes, at a date and a time; a clock may go back. The first scan after fresh only remembers
- * the table's Booleans. A later one, if running, compares them with those remembered. Each file of a limit over 0 whose trigger
- * went from 0 to 1 captures a record of this table and stamp, behind the one captured last, or over record 1 where that was the
- * last record. Slots log to the alarm file in rising order of point, then slot: types 0 and 2 any change of their point, types 1
- * and 3 a rise only. Running or not, the Booleans are then remembered. Refused with 3 or 4.
+ * the table's Booleans. A later one, if running, compares them with those remembered. Each file of a laid-out limit over 0 whose
+ * trigger went from 0 to 1 captures a record of this table and stamp, behind the one captured last, or over record 1 where that
+ * was the last record. Slots log to the alarm file in rising order of point, then slot: types 0 and 2 any change of their point,
+ * types 1 and 3 a rise only. Running or not, the Booleans are then remembered. Refused with 3 or 4.
  */
 struct windrow_gateway_answer windrow_gateway_scan(struct windrow_state state, uint8_t *archive, size_t archive_length,
                                                    const uint8_t *table, size_t table_length, struct windrow_stamp stamp);
@@ -186,14 +187,14 @@ struct windrow_poll_answer {
  * Answers a Modbus RTU frame, which may have any length, 0 and over 256 included. Where a frame ends, by 3.5 characters of
  * silence, is for the caller to find; every frame on the line may be handed in, other units' too. The reply is the first length
  * bytes of the reply buffer, ready to be sent; the bytes past it stay as they were lent. There is none to a frame under 4 or
- * over 256 bytes, with a wrong CRC or for another unit, and none to unit 0, for which a 06 is done all the same. For file f,
- * 1-11:
+ * over 256 bytes, with a wrong CRC or for another unit, and none to unit 0, for which a 06 that would not be an exception is
+ * done all the same. For file f, 1-11:
  *
  *   03 on 700+f        the record with the requested number, whatever the quantity
  *   03 on 720+f        the record whose number is the quantity
  *   03 on 750+f        the stamp of the record with the requested number, whatever the quantity
  *   03 on 770+f        the stamp of the record whose number is the quantity
- *   03 on 3701-3733    registers, three a file: its limit, its pointer (the record captured last), its requested number
+ *   03 on 3701-3733    registers, three a file: its laid-out limit, its pointer (the record captured last), its requested number
  *   06 on 3703+3(f-1)  sets the requested number; the reply echoes the frame
  *
  * The exception is the first that applies: WINDROW_ILLEGAL_FUNCTION to another function; WINDROW_ILLEGAL_VALUE to a frame that
@@ -319,7 +320,7 @@ static inline bool windrow_state_from_bytes(struct windrow_state *state, const u
     for (size_t i = 0; i < sizeof bools / sizeof bools[0]; i++)
         if (bytes[bools[i]] > 1)
             return false;
-    memcpy(state, bytes, sizeof *state);
+    memmove(state, bytes, sizeof *state); /* they may be the same memory */
     return true;
 }
 

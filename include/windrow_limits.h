@@ -59,12 +59,13 @@
 
 /*
  * Registers, three a file, 1-11: its limit n, its pointer (the record captured last, 0 for none), its requested number. 03 reads
- * them, from any one on; 06 sets a requested number, of which there is one a file for all masters. It is 0 at first, and then a
- * poll of 700+f or 750+f is an exception; a poll of 720+f or 770+f needs none.
+ * them, from any one on; 06 sets a requested number, of which there is one a file for all masters. It is 0 after fresh and after
+ * every start that lays out, and then a poll of 700+f or 750+f is an exception; a poll of 720+f or 770+f needs none.
  *
  * Oldest first: with pointer p over 0, read p + 1 to n and then 1 to p, and pass over records that are WINDROW_EMPTY (15); one
- * that was captured never is, since its month is not 0. Read the pointer again at the end: what was captured meanwhile has
- * replaced the oldest.
+ * that was captured never is, since its month is not 0. Read the pointer again at the end. Where it has gone on by c, the c
+ * numbers from p + 1 on may hold newer records than they did: drop those rows, and read p + 1 to the new pointer as the newest.
+ * A pointer of 0 or another n then means that the file was emptied meanwhile; one that goes round whole is not noticed.
  */
 #define WINDROW_FIRST_REGISTER 3701
 #define WINDROW_LAST_REGISTER 3733

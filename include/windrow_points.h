@@ -210,8 +210,8 @@ static inline bool windrow_put_text(uint8_t *table, uint32_t point, const char *
     if (row.kind != WINDROW_TEXT || length > row.size)
         return false;
     uint8_t *at = &table[windrow_point_at(row, point)];
-    memset(at, 0, row.size);
-    memcpy(at, text, length);
+    memmove(at, text, length); /* the text may be one of the table's */
+    memset(at + length, 0, row.size - length);
     return true;
 }
 

@@ -119,7 +119,7 @@ static inline void windrow_request(uint8_t request[WINDROW_REQUEST_BYTES], uint8
     request[7] = (uint8_t)(crc >> 8);
 }
 
-/* Whether a frame ends in its CRC. */
+/* Whether a frame ends in its CRC; false under 4 bytes, which no frame has. */
 static inline bool windrow_has_crc(const uint8_t *frame, size_t frame_length)
 {
     if (frame_length < 4)
@@ -137,6 +137,8 @@ static inline uint32_t windrow_reply_exception(const uint8_t *frame, size_t fram
 /* Takes `count` registers, 1-33, out of a reply to 03; false, and nothing is taken, where it is no reply with so many. */
 static inline bool windrow_reply_registers(const uint8_t *frame, size_t frame_length, uint16_t *registers, size_t count)
 {
+    if (count < 1 || count > WINDROW_LAST_REGISTER - WINDROW_FIRST_REGISTER + 1)
+        return false;
     if (frame_length != 5 + 2 * count || frame[1] != WINDROW_READ || frame[2] != 2 * count || !windrow_has_crc(frame, frame_length))
         return false;
     for (size_t i = 0; i < count; i++)

@@ -1,7 +1,8 @@
 /*
  * windrow_version.h: which release these headers and libraries are. windrow_reader.h and windrow_gateway.h include it.
  *
- * The libraries are made for x86-64 and the System V calling convention (Linux, the BSDs), by the kit that proves them.
+ * The headers are C99 and C++11. The libraries are made for x86-64 and the System V calling convention (Linux, the BSDs), by the
+ * kit that proves them.
  */
 #ifndef WINDROW_VERSION_H
 #define WINDROW_VERSION_H

@@ -234,6 +234,15 @@ static void write_sizes(void)
         }
 }
 
+/* A text that is put from where it stands in the table stays. */
+static void put_in_place(void)
+{
+    memset(table, 0, sizeof table);
+    check(windrow_put_text(table, 4002, "pile"), "not put", 4002);
+    check(windrow_put_text(table, 4002, (const char *)&table[WINDROW_TEXT8S_AT + 8]), "not put", 4002);
+    check(memcmp(&table[WINDROW_TEXT8S_AT], "\0\0\0\0\0\0\0\0pile\0\0\0", 16) == 0, "not as it was", 4002);
+}
+
 int main(void)
 {
     put_all();
@@ -241,5 +250,6 @@ int main(void)
     write_sizes();
     refuse_all();
     neighbours();
+    put_in_place();
     return failures != 0;
 }

@@ -264,6 +264,7 @@ static void replies(void)
 {
     static const uint8_t three[] = {0x11, 0x03, 0x06, 0xAE, 0x41, 0x56, 0x52, 0x43, 0x40, 0x49, 0xAD};
     static const uint8_t exception[] = {0x11, 0x83, 0x03, 0x00, 0xF4};
+    static const uint8_t no_data[] = {0x11, 0x03, 0x00, 0x21, 0x35};
     uint8_t damaged[sizeof three];
     uint16_t registers[4] = {1, 2, 3, 4};
     memcpy(damaged, three, sizeof damaged);
@@ -274,6 +275,8 @@ static void replies(void)
     assert(!windrow_reply_registers(three, sizeof three - 1, registers, 3));
     assert(!windrow_reply_registers(exception, sizeof exception, registers, 0));
     assert(!windrow_reply_registers(three, 0, registers, 3));
+    assert(!windrow_reply_registers(no_data, sizeof no_data, registers, 0));
+    assert(!windrow_reply_registers(no_data, sizeof no_data, registers, (size_t)1 << (8 * sizeof(size_t) - 1)));
     printf("registers as they were: %u %u %u %u\n", registers[0], registers[1], registers[2], registers[3]);
     assert(windrow_reply_registers(three, sizeof three, registers, 3));
     printf("registers: %04X %04X %04X %u\n", registers[0], registers[1], registers[2], registers[3]);
