@@ -40,12 +40,6 @@ struct windrow_stamp calendar_stamp(int64_t seconds)
     return stamp;
 }
 
-bool calendar_in_range(struct windrow_stamp stamp)
-{
-    return stamp.month >= 1 && stamp.month <= 12 && stamp.day >= 1 && stamp.day <= 31 && stamp.year < YEARS && stamp.hour < 24
-           && stamp.minute < 60 && stamp.second < 60;
-}
-
 void calendar_text(char text[CALENDAR_TEXT], struct windrow_stamp stamp)
 {
     snprintf(text, CALENDAR_TEXT, "%04u-%02u-%02uT%02u:%02u:%02u", (WINDROW_CENTURY + stamp.year) % 10000u, stamp.month % 100u,
@@ -57,10 +51,10 @@ bool calendar_parse(const char *text, struct windrow_stamp *stamp)
     unsigned year, month, day, hour, minute, second;
     int length = 0;
     if (sscanf(text, "%4u-%2u-%2uT%2u:%2u:%2u%n", &year, &month, &day, &hour, &minute, &second, &length) != 6
-        || length != CALENDAR_TEXT - 1 || text[length] != 0)
+        || length != CALENDAR_TEXT - 1 || text[length] != 0 || strpbrk(text, "+ ") != NULL)
         return false;
     if (year < WINDROW_CENTURY || year >= WINDROW_CENTURY + YEARS || month < 1 || month > 12 || day < 1
-        || (int)day > month_days((int)year - WINDROW_CENTURY, (int)month) || hour > 23 || minute > 59 || second > 59)
+        || day > (unsigned)month_days((int)year - WINDROW_CENTURY, (int)month) || hour > 23 || minute > 59 || second > 59)
         return false;
     struct windrow_stamp read = {(uint8_t)month, (uint8_t)day,    (uint8_t)(year - WINDROW_CENTURY),
                                  (uint8_t)hour,  (uint8_t)minute, (uint8_t)second};

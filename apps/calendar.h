@@ -12,9 +12,6 @@
 int64_t calendar_seconds(struct windrow_stamp stamp);
 struct windrow_stamp calendar_stamp(int64_t seconds);
 
-/* Whether a stamp is within the ranges by which the library judges a scan's. */
-bool calendar_in_range(struct windrow_stamp stamp);
-
 /* A stamp as 2007-08-29T11:36:52, with its closing zero. */
 #define CALENDAR_TEXT 20
 void calendar_text(char text[CALENDAR_TEXT], struct windrow_stamp stamp);

@@ -20,9 +20,9 @@ struct value {
 #define CELL_BYTES 67
 
 /*
- * Writes the value's cell, without a comma. Numbers are plain decimals; a float has 9 digits, which give its pattern back (NaNs
- * are `nan`). A text stands in quotes without the zeros that fill it up; a quote is doubled, and a backslash or a byte that is
- * not printable ASCII is \xHH.
+ * Writes the value's cell, without a comma. Numbers are decimals; a float has 9 digits, which give its pattern back, and an
+ * exponent where it is large or small (infinities are `inf`, NaNs `nan`). A text stands in quotes without the zeros that fill it
+ * up; a quote is doubled, and a backslash or a byte that is not printable ASCII is \xHH.
  */
 void cell_of(char cell[CELL_BYTES], struct value value);
 

@@ -19,7 +19,7 @@ static const char help[] =
     "\n"
     "HEX are the frame's bytes in hexadecimal, with spaces, commas, colons or 0x between them or nothing: 11 03 02D1 0001 D71B\n"
     "\n"
-    "  --settings FILE   a gateway's settings: says what it answers to a request, as long as nothing has been captured\n"
+    "  --settings FILE   a gateway's settings: says what it answers to a request, as long as nothing is captured or requested\n"
     "  --file F          the frame is a reply with a record of file F, 1-11, or with its stamp: takes it apart by the settings\n"
     "  --help            this page\n"
     "\n"
@@ -235,15 +235,19 @@ static void tell_answer(const struct frame *frame, const struct settings *settin
         setup_fresh(&store, settings);
     else if (windrow_fresh(&store.state, false, frame->bytes[0], least, sizeof least) != WINDROW_DONE)
         return; /* no gateway has this unit */
-    if (windrow_poll(&store.state, store.archive, store.archive_length, frame->bytes, frame->length, reply, sizeof reply, &length)
-        != WINDROW_DONE)
+    struct windrow_state before = store.state;
+    uint32_t number = windrow_poll(&store.state, store.archive, store.archive_length, frame->bytes, frame->length, reply,
+                                   sizeof reply, &length);
+    if (settings != NULL)
+        free(store.archive);
+    if (number != WINDROW_DONE)
         return;
     uint32_t exception = windrow_reply_exception(reply, length);
     const char *who = settings != NULL ? "this gateway" : "a gateway";
     if (settings == NULL && !is_answered_alike(frame, exception))
         return;
     if (length == 0)
-        printf("%s does not answer it\n", who);
+        printf("%s does not answer it%s\n", who, memcmp(&before, &store.state, sizeof before) != 0 ? ", but does it" : "");
     else if (exception != 0)
         printf("%s answers it with exception %lu, %s\n", who, (unsigned long)exception, windrow_exception_word(exception));
     else

@@ -215,6 +215,8 @@ static void take_alarms(const struct season *season, struct spells *spells, cons
         int64_t at = time_at(file, i, stamp);
         if (strcmp(file->rows[i].cells[which], point) != 0 || (logs != 0 && logs != 2))
             continue;
+        if (!raised && !is_raise && spells->count > 0)
+            continue; /* another slot's row of the same change */
         if (!raised) {
             struct spell spell = {is_raise ? at : season->from, season->to}; /* cleared first: it was raised before the season */
             spells->list[spells->count++] = spell;

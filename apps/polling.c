@@ -81,7 +81,8 @@ bool poll_registers(struct source *source, struct registers files[ALL_FILES])
     if (!ask(source, WINDROW_FIRST_REGISTER, COUNT, "registers", reply, &length))
         return false;
     if (!windrow_reply_registers(reply, length, values, COUNT)) {
-        complain("registers: %u bytes came, and %d were asked for", reply[2], 2 * COUNT);
+        if (!source->quiet)
+            complain("registers: %u bytes came, and %d were asked for", reply[2], 2 * COUNT);
         return false;
     }
     for (int i = 0; i < ALL_FILES; i++) {
@@ -158,6 +159,8 @@ const char *refusal_of(char text[REFUSAL_TEXT], const struct row *row, struct fi
     else if (row->bytes != wanted)
         snprintf(text, REFUSAL_TEXT, "14 Garbled: it has %lu bytes, and a record of this definition has %zu",
                  (unsigned long)row->bytes, wanted);
+    else if (frame[0] < WINDROW_LEAST_UNIT || frame[0] > WINDROW_MOST_UNIT)
+        snprintf(text, REFUSAL_TEXT, "14 Garbled: its unit %u is not 1-247", frame[0]);
     else
         snprintf(text, REFUSAL_TEXT, "14 Garbled: its stamp is out of range: damaged, or dates in the other order?");
     return text;
@@ -169,12 +172,15 @@ bool poll_record(struct source *source, struct file file, uint16_t number, struc
     char what[64], text[REFUSAL_TEXT];
     size_t length;
     snprintf(what, sizeof what, "file %lu, record %u", (unsigned long)file.number, number);
+    row->card = WINDROW_GARBLED; /* until a reply says otherwise */
+    row->bytes = 0;
     if (!ask(source, (uint16_t)(WINDROW_NUMBERED_RECORD + file.number), number, what, frame, &length))
         return false;
     take_reply(row, file, source->day_first, frame, length);
     if (row->card == WINDROW_DONE || row->card == WINDROW_EMPTY)
         return true;
-    complain("%s: %s", what, refusal_of(text, row, file, frame, length));
+    if (!source->quiet)
+        complain("%s: %s", what, refusal_of(text, row, file, frame, length));
     return false;
 }
 

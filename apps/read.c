@@ -108,6 +108,8 @@ static char **read_rows(struct reader *reader, const struct reading *reading, ui
     if (rows == NULL)
         give_up("there is no memory for %lu rows", (unsigned long)count);
     for (uint32_t i = 0; i < count; i++) {
+        if (interrupted && !reader->follow)
+            give_up("interrupted");
         if (!poll_record(&reader->source, reading->file, number_after(first, i, reading->limit), &row)) {
             free_rows(rows, count);
             return NULL;
@@ -359,10 +361,8 @@ int main(int count, char **words)
     parse(&reader, count, words);
     line_open_device(&reader.line, words[1], &reader.settings);
     struct sigaction action = {.sa_handler = interrupt};
-    if (reader.follow) {
-        sigaction(SIGINT, &action, NULL);
-        sigaction(SIGTERM, &action, NULL);
-    }
+    sigaction(SIGINT, &action, NULL);
+    sigaction(SIGTERM, &action, NULL);
     atexit(remove_unfinished);
     for (int i = 0; i < reader.count; i++)
         open_output(&reader.readings[i]);

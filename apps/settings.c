@@ -9,7 +9,8 @@
 #include "report.h"
 
 const char settings_help[] =
-    "A settings file has a line for each setting; # begins a comment. Only `unit` must be there.\n"
+    "A settings file has a line for each setting; # begins a comment. Only `unit` must be there; of the others\n"
+    "that have one value, the one shown here holds where nothing is said.\n"
     "  unit 17                     the gateway's Modbus unit, 1-247\n"
     "  dates month-first           or day-first: the order of a stamp's first two bytes\n"
     "  archive 65536               bytes of archive memory, 11,000 to 1,048,576\n"
@@ -23,7 +24,7 @@ const char settings_help[] =
     "  scan 600                    seconds from one scan of it to the next, 1-1800\n"
     "  baud 19200                  of a serial line: 1200, 2400, 4800, 9600, 19200, 38400, 57600 or 115200; 8 bits\n"
     "  parity even                 of a serial line: even, odd or none\n"
-    "  gap 5                       milliseconds of silence that end a frame, 1-1000\n";
+    "  gap 5                       milliseconds of silence that end a frame, 1-1000; on a device at least 3.5 characters\n";
 
 #define MOST_WORDS 40
 #define LONGEST_LINE 1024

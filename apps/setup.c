@@ -40,6 +40,18 @@ static void make_changes_at_once(struct store *store, const struct settings *set
         make_change(settings->changes[i].timed ? &trial : store, settings, &settings->changes[i]);
 }
 
+/* Triggers and alarms that were set before and are not in the settings any more are off. */
+static void forget_changes(struct store *store)
+{
+    uint32_t number = WINDROW_DONE;
+    for (uint32_t file = 1; file <= WINDROW_FILES && number == WINDROW_DONE; file++)
+        number = windrow_trigger(&store->state, store->archive, store->archive_length, file, 0);
+    for (uint32_t slot = 1; slot <= WINDROW_ALARM_SLOTS && number == WINDROW_DONE; slot++)
+        number = windrow_alarm(&store->state, store->archive, store->archive_length, slot, 0, 0, 0);
+    if (number != WINDROW_DONE)
+        setup_refused("an empty trigger or slot", number);
+}
+
 /* What the files, whose groups are good, and the alarm file take of the archive. */
 static size_t bytes_needed(const struct settings *settings)
 {
@@ -114,13 +126,14 @@ void setup_again(struct store *store, const struct settings *settings, const cha
         give_up("the store %s is of a gateway with unit %u, %s dates and %zu bytes of archive; %s says otherwise, and these can't"
                 " be changed",
                 path, site->unit, site->day_first ? "day-first" : "month-first", store->archive_length, settings->path);
+    forget_changes(store);
     make_changes_at_once(store, settings);
     uint32_t other = first_difference(store, settings);
     if (other != 0 && !redefine)
         give_up("%s defines file %lu otherwise than the store %s has it; --redefine lays it out anew, which empties every file",
                 settings->path, (unsigned long)other, path);
     if (store->state.flags.pending && !redefine)
-        give_up("the store %s was left unlocked, so that a start empties every file; --redefine does that", path);
+        give_up("the store %s has a start pending, which empties every file; --redefine does that", path);
     if (other != 0 || store->state.flags.pending) {
         lay_out(store, settings);
         return;
@@ -130,9 +143,18 @@ void setup_again(struct store *store, const struct settings *settings, const cha
         setup_refused("start", number);
 }
 
+/* Whether the library takes a scan of this stamp, asked of a stopped copy, which writes nothing into the archive. */
+static bool is_taken(const struct store *store, struct windrow_stamp stamp)
+{
+    static const uint8_t table[WINDROW_TABLE_BYTES];
+    struct windrow_state stopped = store->state;
+    return windrow_stop(&stopped, store->archive, store->archive_length) == WINDROW_DONE
+           && windrow_scan(&stopped, store->archive, store->archive_length, table, sizeof table, stamp) == WINDROW_DONE;
+}
+
 size_t setup_timed(struct store *store, const struct settings *settings, size_t next, struct windrow_stamp now)
 {
-    if (!calendar_in_range(now))
+    if (!is_taken(store, now))
         return next;
     for (; next < settings->change_count; next++) {
         const struct change *change = &settings->changes[next];

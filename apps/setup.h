@@ -12,9 +12,9 @@
 void setup_fresh(struct store *store, const struct settings *settings);
 
 /*
- * A gateway out of a store: its unit, date order and memory must be the settings'. Triggers and alarms are set, which empties
- * nothing. Where the settings define other files than it has, it is laid out anew only if `redefine`, since that empties every
- * file.
+ * A gateway out of a store: its unit, date order and memory must be the settings'. Triggers and alarms become those of the
+ * settings alone, which empties nothing. Where the settings define other files than it has, it is laid out anew only if
+ * `redefine`, since that empties every file.
  */
 void setup_again(struct store *store, const struct settings *settings, const char *path, bool redefine);
 

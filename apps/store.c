@@ -124,7 +124,8 @@ static bool write_synced(const char *path, const uint8_t *bytes, size_t length)
             length -= (size_t)written;
         }
     }
-    return (fsync(fd) == 0) & (close(fd) == 0);
+    bool synced = fsync(fd) == 0;
+    return close(fd) == 0 && synced;
 }
 
 /* A renamed file's name is safe only when its folder is. */

@@ -88,6 +88,11 @@ class Answers(FrameCase):
         self.write("s", SETTINGS)
         self.told(FINE, request(18, 3, 3701, 1), "this gateway does not answer it", words=("--settings", "s"))
 
+    def test_of_every_unit(self):
+        self.write("s", SETTINGS)
+        self.told(FINE, request(0, 6, 3703, 4), "this gateway does not answer it, but does it", words=("--settings", "s"))
+        self.told(FINE, request(0, 6, 3703, 5), "this gateway does not answer it", words=("--settings", "s"))
+
 
 class Replies(FrameCase):
     def test_registers(self):
@@ -144,7 +149,8 @@ class Damaged(FrameCase):
 class Hex(FrameCase):
     def test_any_spacing(self):
         wanted = self.told(FINE, "110302D10001D71B")
-        for text in "11:03:02:D1:00:01:D7:1B", "0x11 0x03 0X02,0xD1,0x00 0x01 0xd7 0x1b", "11,03,02,d1,00,01,d7,1b", " 11\t03 02D1\n0001 D71B ":
+        for text in ("11:03:02:D1:00:01:D7:1B", "0x11 0x03 0X02,0xD1,0x00 0x01 0xd7 0x1b", "11,03,02,d1,00,01,d7,1b",
+                     " 11\t03 02D1\n0001 D71B "):
             self.assertEqual(self.told(FINE, text), wanted)
         self.assertEqual(self.expect(FINE, "", "frame", *"11 03 02 D1 00 01 D7 1B".split()).stdout, wanted)
 
@@ -196,6 +202,9 @@ class Records(FrameCase):
     def test_impossible_stamp(self):
         self.record(TROUBLE, reply(17, b"\x0d" + self.RECORD[1:]),
                     GARBLED + "its stamp is out of range: damaged, or dates in the other order?")
+
+    def test_unit_of_no_gateway(self):
+        self.record(TROUBLE, reply(250, self.RECORD), GARBLED + "its unit 250 is not 1-247")
 
     def test_alarm(self):
         data = bytes([8, 29, 7, 11, 36, 52, 0x07, 0x0D, 2, 1, 0xC2, 0x48, 0, 0]) + b"\0\0\0\7\xff\xff\xff\xff"

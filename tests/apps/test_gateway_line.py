@@ -145,7 +145,8 @@ class Frames(GatewayCase):
         self.unanswered(frame(bytes([17, 3]) + bytes(253)))
 
     def test_overlong_frame_that_ends_in_a_good_one(self):
-        self.unanswered(bytes(600) + REGISTERS)
+        for length in 257, 514, 600:
+            self.unanswered(bytes(length) + REGISTERS)
 
     def test_frame_behind_noise_without_silence(self):
         self.unanswered(b"\0" + REGISTERS)

@@ -83,6 +83,8 @@ BAD_LINES = {
     "at_before_an_earlier_at": ("at 2026-06-07T00:00:00 trigger 1 1801\nat 2026-06-06T23:59:59 trigger 1 0",
                                 "this date is before that of an earlier `at`"),
     "begin_on_30_february": ("begin 2028-02-30T00:00:00", "there is no such date"),
+    "begin_on_a_day_before_the_first": ("begin 2026-05--1T06:00:00", "there is no such date"),
+    "begin_with_a_sign": ("begin 2026-+5-01T06:00:00", "there is no such date"),
     "begin_before_2000": ("begin 1999-12-31T23:59:59", "there is no such date"),
     "begin_at_24_hours": ("begin 2026-05-01T24:00:00", "there is no such date"),
     "scan_of_no_seconds": ("scan 0", "this number is not 1 to 1800: 0"),

@@ -97,6 +97,20 @@ class DamagedStore(StoreCase):
         self.expect(TROUBLE, "windrow-dump store says more", "gateway", "s", "--store", "store")
 
 
+class ChangedSettings(StoreCase):
+    def test_trigger_and_alarm_that_are_set_no_longer_are_off(self):
+        self.stored()
+        self.write("s", SETTINGS + "trigger 2 1802\nalarm 5 1801 0 0\n")
+        self.expect(FINE, "", "gateway", "s", "--store", "store", "--scans", "0")
+        before = stores.Store.of(self.read("store"))
+        self.assertEqual((before.get16(stores.TRIGGERS + 2), before.get16(stores.SLOTS + 6 * 4)), (1802, 1801))
+        self.write("s", SETTINGS)
+        self.expect(FINE, "", "gateway", "s", "--store", "store", "--scans", "0")
+        after = stores.Store.of(self.read("store"))
+        self.assertEqual((after.get16(stores.TRIGGERS + 2), after.get16(stores.SLOTS + 6 * 4)), (0, 0))
+        self.assertEqual((after.archive, after.get16(stores.POINTERS)), (before.archive, before.get16(stores.POINTERS)))
+
+
 class OthersStore(StoreCase):
     """A whole store that the settings do not go with."""
 
@@ -158,7 +172,7 @@ class OthersStore(StoreCase):
         store = stores.Store.of(self.stored())
         store.state[stores.RUNNING], store.state[stores.PENDING] = 0, 1
         store.put16(stores.DRAFT_LIMITS, 3)  # what a start would lay out
-        self.refused(store.bytes(), "was left unlocked", "--redefine")
+        self.refused(store.bytes(), "has a start pending, which empties every file", "--redefine")
         self.expect(FINE, "", "gateway", "s", "--store", "store", "--redefine", "--trace", "trace")
         after = stores.Store.of(self.read("store"))
         self.assertEqual(after.get16(stores.LAYOUT_LIMITS), 8)  # the settings', not the draft's

@@ -115,9 +115,10 @@ class Answers(ReadCase):
         self.reads(lambda *a: reply(18, record(9)) if a[4] == 2 else good(*a), "--wait", "300")
 
     def test_late_answer_is_not_taken_for_the_next_record(self):
-        """The second request is answered after the reader has asked again; answers do not say what they are to."""
+        """Record 1 is answered after it was asked for again, and then once more; answers do not say what they are to."""
         def late(*asked):
-            return [0.45, good(*asked)] if asked[4] == 1 else good(*asked)
+            pause = {3: 0.45, 4: 0.15}.get(asked[4], 0)
+            return [pause, good(*asked)]
 
         self.reads(late, "--wait", "300")
 
