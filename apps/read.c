@@ -45,6 +45,7 @@ struct reader {
     struct line_end line;
     int wait_ms;
     bool follow;
+    bool following; /* its first look is over: a signal then ends it after one look more, and before at once */
     int every_ms;
     struct source source;
     struct reading readings[ALL_FILES];
@@ -66,6 +67,9 @@ static size_t length_told(const uint8_t *reply, size_t length)
     return told < WINDROW_LONGEST_FRAME ? told : WINDROW_LONGEST_FRAME;
 }
 
+/* A signal that comes just before a wait does not end it, so none is longer. */
+#define LONGEST_WAIT 250
+
 /* Asks over the line: a reply ends where its byte count says so, or when the time is up. */
 static size_t exchange(void *self, const uint8_t request[WINDROW_REQUEST_BYTES], uint8_t reply[WINDROW_LONGEST_FRAME])
 {
@@ -74,8 +78,12 @@ static size_t exchange(void *self, const uint8_t request[WINDROW_REQUEST_BYTES],
     int64_t until = line_clock() + reader->wait_ms, now;
     line_forget(&reader->line);
     line_send(&reader->line, request, WINDROW_REQUEST_BYTES);
-    while (length < (told = length_told(reply, length)) && (now = line_clock()) < until)
-        length += line_take(&reader->line, reply + length, told - length, (int)(until - now));
+    while (length < (told = length_told(reply, length)) && (now = line_clock()) < until) {
+        if (interrupted && !reader->following)
+            give_up("interrupted");
+        int wait_ms = until - now < LONGEST_WAIT ? (int)(until - now) : LONGEST_WAIT;
+        length += line_take(&reader->line, reply + length, told - length, wait_ms);
+    }
     return length;
 }
 
@@ -108,8 +116,6 @@ static char **read_rows(struct reader *reader, const struct reading *reading, ui
     if (rows == NULL)
         give_up("there is no memory for %lu rows", (unsigned long)count);
     for (uint32_t i = 0; i < count; i++) {
-        if (interrupted && !reader->follow)
-            give_up("interrupted");
         if (!poll_record(&reader->source, reading->file, number_after(first, i, reading->limit), &row)) {
             free_rows(rows, count);
             return NULL;
@@ -260,7 +266,7 @@ static void pause_until_look(const struct reader *reader)
 {
     int64_t until = line_clock() + reader->every_ms, left;
     while (!interrupted && (left = until - line_clock()) > 0) {
-        struct timespec pause = {0, (left < 100 ? left : 100) * 1000000L};
+        struct timespec pause = {0, (left < LONGEST_WAIT ? left : LONGEST_WAIT) * 1000000L};
         nanosleep(&pause, NULL);
     }
 }
@@ -269,6 +275,7 @@ static void pause_until_look(const struct reader *reader)
 static bool follow(struct reader *reader)
 {
     bool silent = false, ended = false;
+    reader->following = true;
     while (!ended) {
         pause_until_look(reader);
         ended = interrupted;

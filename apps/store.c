@@ -61,8 +61,7 @@ bool store_load(struct store *store, const char *path)
     size_t length;
     uint8_t *bytes = file_bytes(path, LONGEST_STORE, &length);
     check_head(bytes, length, path);
-    uint16_t crc = windrow_reader_crc(bytes, length - CRC_BYTES);
-    if (bytes[length - 2] != (uint8_t)crc || bytes[length - 1] != crc >> 8)
+    if (!windrow_has_crc(bytes, length))
         give_up("%s is damaged: its CRC is wrong", path);
     if (!windrow_state_from_bytes(&store->state, bytes + HEAD_BYTES))
         give_up("%s has no state: a bool in it is neither 0 nor 1", path);

@@ -166,8 +166,29 @@ class Unplugged(ReadCase):
         self.fails(lambda *a: good(*a) if a[4] < 3 else [good(*a)[:5], 0.02, None], "is gone")
 
 
+class Interrupted(GatewayCase, ReadCase):
+    """Ends at once, however long it would wait, and leaves nothing half."""
+
+    def ended(self, answer, *words):
+        self.write("csv", OLD)
+        gateway = self.play(answer)
+        reader = self.start(gateway.device, "s", "1=csv", "--wait", "600000", *words, name="read")
+        self.wait_for("a request", lambda: gateway.requests)
+        status, _, told = self.stopped(reader)
+        self.assertEqual((status, told), (TROUBLE, "windrow-read: interrupted\n"))
+        self.assertEqual((self.names(), self.read("csv")), (["csv", "s"], OLD.encode()))
+
+    def test_silent_from_the_start(self):
+        self.ended(lambda *_: b"")
+        self.ended(lambda *_: b"", "--follow")
+
+    def test_midway(self):
+        self.ended(lambda *a: good(*a) if a[2] == 3701 else b"")
+
+
 class Follow(GatewayCase, ReadCase):
-    def test_silence_is_told_once_and_outlived(self):
+    def silenced(self):
+        """A gateway that answered the first look and no other, and its reader."""
         silent = []
         gateway = self.play(lambda *a: b"" if silent else good(*a))
         reader = self.start(gateway.device, "s", "1=csv", "--follow", "--every", "5", "--wait", "200", name="read")
@@ -175,6 +196,10 @@ class Follow(GatewayCase, ReadCase):
         silent.append(True)
         before = len(gateway.requests)
         self.wait_for("looks in vain", lambda: len(gateway.requests) > before + 7)
+        return gateway, reader
+
+    def test_silence_is_told_once_and_outlived(self):
+        gateway, reader = self.silenced()
         gateway.answer = answers({1: (4, 3, 0)}, {**RECORDS, (1, 3): record(3, 3)})
         self.wait_for("the next record", lambda: b"3,2026-05-01T06:03:00,3\n" in self.read("csv"))
         status, _, told = self.stopped(reader)
@@ -185,13 +210,7 @@ class Follow(GatewayCase, ReadCase):
         self.assertEqual(self.read("csv").decode(), CSV + "3,2026-05-01T06:03:00,3\n")
 
     def test_silent_when_it_is_ended(self):
-        silent = []
-        gateway = self.play(lambda *a: b"" if silent else good(*a))
-        reader = self.start(gateway.device, "s", "1=csv", "--follow", "--every", "5", "--wait", "200", name="read")
-        self.wait_for("its first look", lambda: "csv" in self.names())
-        silent.append(True)
-        before = len(gateway.requests)
-        self.wait_for("looks in vain", lambda: len(gateway.requests) > before + 7)
+        _, reader = self.silenced()
         status, _, told = self.stopped(reader)
         self.assertEqual(status, TROUBLE)
         self.assertIn("there is still no answer", told)
