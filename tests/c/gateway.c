@@ -288,8 +288,10 @@ static void refused_scans(struct windrow_state s)
 {
     static const struct windrow_stamp noon = {8, 29, 7, 12, 0, 0};
     static const struct windrow_stamp no_month = {0, 29, 7, 12, 0, 0};
+    static const struct windrow_stamp february_30 = {2, 30, 24, 12, 0, 0};
     now(false, false, 7);
     told("scan with no month", windrow_gateway_scan(s, records, sizeof records, live, sizeof live, no_month));
+    told("scan on 30 February", windrow_gateway_scan(s, records, sizeof records, live, sizeof live, february_30));
     told("scan of a byte less", windrow_gateway_scan(s, records, sizeof records, live, sizeof live - 1, no_month));
     told("scan over a byte less", windrow_gateway_scan(s, records, sizeof records - 1, live, sizeof live - 1, no_month));
     s.settings.triggers[9] = 1929;

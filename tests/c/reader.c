@@ -1,7 +1,7 @@
 /*
  * A site driver in C: decodes the Omni bulletin's example (floats 7101-7103 and counters 5101-5103, 29 August 2007 11:36:52) and
- * asserts the header's layout. The reply is written out by hand from document 01; its CRC was worked out by the bit rule in
- * Python.
+ * the last days of February, and asserts the header's layout. The replies are written out by hand from document 01; their CRCs
+ * were worked out by the bit rule in Python.
  */
 #include <assert.h>
 #include <stdio.h>
@@ -22,6 +22,11 @@ static const uint8_t reply[] = {
     0x00, 0x00, 0x00, 0x07, 0xFF, 0xFF, 0xFF, 0xFB, /* 7, -5 */
     0x7F, 0xFF, 0xFF, 0xFF,                         /* 2147483647 */
     0xD1, 0x5C};                                   /* CRC, low byte first */
+
+/* Bare stamps at 11:36:52, month first: 29 February 2024, and the 30th, which does not exist (document 02, L1). */
+static const uint16_t bare_stamp[GROUP_NUMBERS] = {0};
+static const uint8_t leap_day[] = {0x01, 0x03, 0x06, 0x02, 0x1D, 0x18, 0x0B, 0x24, 0x34, 0xA1, 0x20};
+static const uint8_t no_such_day[] = {0x01, 0x03, 0x06, 0x02, 0x1E, 0x18, 0x0B, 0x24, 0x34, 0xE5, 0x20};
 
 static void check_layout(void)
 {
@@ -44,6 +49,13 @@ static void check_layout(void)
     assert(offsetof(struct windrow_point, length) == 20);
 }
 
+static void print_stamp(const uint16_t numbers[GROUP_NUMBERS], const uint8_t *frame, size_t length)
+{
+    struct windrow_stamp_answer when = windrow_reader_stamp(numbers, GROUP_NUMBERS, false, frame, length);
+    printf("refused %u: %u/%u/%02u %02u:%02u:%02u\n", when.number, when.stamp.day, when.stamp.month, when.stamp.year,
+           when.stamp.hour, when.stamp.minute, when.stamp.second);
+}
+
 static void print_point(uint32_t g, uint32_t e)
 {
     struct windrow_point p = windrow_reader_point(groups, GROUP_NUMBERS, false, reply, sizeof reply, g, e);
@@ -58,9 +70,9 @@ static void print_point(uint32_t g, uint32_t e)
 int main(void)
 {
     check_layout();
-    struct windrow_stamp_answer when = windrow_reader_stamp(groups, GROUP_NUMBERS, false, reply, sizeof reply);
-    printf("refused %u: %u/%u/%02u %02u:%02u:%02u\n", when.number, when.stamp.day, when.stamp.month, when.stamp.year,
-           when.stamp.hour, when.stamp.minute, when.stamp.second);
+    print_stamp(groups, reply, sizeof reply);
+    print_stamp(bare_stamp, leap_day, sizeof leap_day);
+    print_stamp(bare_stamp, no_such_day, sizeof no_such_day);
     struct windrow_part record = windrow_reader_record(groups, GROUP_NUMBERS, false, reply, sizeof reply);
     printf("record: %u bytes from %u\n", record.length, record.place);
     struct windrow_part counters = windrow_reader_stretch(groups, GROUP_NUMBERS, false, reply, sizeof reply, 2);

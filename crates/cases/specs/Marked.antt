@@ -1,4 +1,4 @@
--- Document 01, "Marked cases and known blunders": the marked cases, one list.
+-- Document 01, "Marked cases and known blunders": the marked cases, one list, and behind them cases of document 02, L1.
 -- proofs/Check.antt computes them all at once.
 use mathlib.Core.List.{List, [], _∷_, _++_}
 use mathlib.Core.Bool.{Bool, true, false, _&&_}
@@ -9,12 +9,14 @@ use lib.ListN.{length, getD, take, replicate}
 use Rattle.points.specs.declared.table.Found.{Found}
 use Rattle.points.specs.declared.table.Found.the-variants.{In, Nowhere}
 use Rattle.points.specs.Table.{tableBytes, rowOf}
-use Rattle.basics.specs.Card.{Card, doneNo, groupNo, longNo}
+use Rattle.basics.specs.Card.{Card, doneNo, clockNo, groupNo, longNo, garbledNo, emptyNo}
+use Rattle.modbus.specs.Frame.{readReply}
 use Rattle.points.specs.Groups.{groupOf, recordSize, judgedCard}
 use Rattle.records.specs.declared.stamp.Stamp.{Stamp}
 use Rattle.records.specs.Stamp.{stampBytes}
 use Rattle.records.specs.Capture.{capturedGroup}
 use Rattle.records.specs.Value.{PointValue, flag, int16, int32, float, text, valueInTable}
+use Rattle.reader.specs.Answers.{recordAnswer}
 use Rattle.archive.specs.Ring.{ring, capturedAll, pointerAfter, recordAfter}
 use Rattle.state.specs.declared.parts.State.{State}
 use Rattle.gateway.specs.Calls.{freshAnswer, unlockAnswer, triggerAnswer, defineAnswer, startAnswer}
@@ -119,6 +121,23 @@ flagOff = tableWith 0 []
 abbrev flagOn : List ℕ
 flagOn = tableWith 0 (0x01 ∷ [])
 
+-- the number that the reading end answers to the reply that carries a bare stamp of these bytes
+abbrev readAs : Bool → List ℕ → ℕ
+readAs dayFirst stamp = recordAnswer (groups []) dayFirst (readReply 1 stamp) .number
+
+-- a day, a month and a year: the number that a scan answers, and the reading end, month first and day first
+abbrev dated : ℕ → ℕ → ℕ → List ℕ
+dated day month year =
+    let midnight : Stamp = record { month = month; day = day; year = year; hour = 0; minute = 0; second = 0 } in
+    scanAnswer watching nothing flagOff midnight .number
+    ∷ readAs false (stampBytes false midnight) ∷ readAs true (stampBytes true midnight) ∷ []
+
+abbrev taken : List ℕ
+taken = doneNo ∷ doneNo ∷ doneNo ∷ []
+
+abbrev impossible : List ℕ
+impossible = clockNo ∷ garbledNo ∷ garbledNo ∷ []
+
 -- ---- the cases
 unfoldable pub marked : List Case
 marked =
@@ -156,6 +175,15 @@ marked =
     ∷ twoScans flagOn flagOff gives (0 ∷ 0 ∷ 0 ∷ 0 ∷ 0 ∷ 0 ∷ 0 ∷ 0 ∷ 0 ∷ [])
     ∷ twoScans flagOn flagOn gives (0 ∷ 0 ∷ 0 ∷ 0 ∷ 0 ∷ 0 ∷ 0 ∷ 0 ∷ 0 ∷ [])
     ∷ twoScans flagOff flagOn gives (0 ∷ 0 ∷ 1 ∷ 0x08 ∷ 0x1D ∷ 0x07 ∷ 0x0B ∷ 0x24 ∷ 0x34 ∷ [])
+    -- L1: 29 February 2024 and 2000 are taken, 2023 is refused; 30 February and 31 April are refused, 31 December is taken
+    ∷ dated 29 2 24 gives taken
+    ∷ dated 29 2 23 gives impossible
+    ∷ dated 29 2 0 gives taken
+    ∷ dated 30 2 24 gives impossible
+    ∷ dated 31 4 24 gives impossible
+    ∷ dated 31 12 24 gives taken
+    -- and a record of zeros stays Empty
+    ∷ (readAs false (replicate 6 0) ∷ []) gives (emptyNo ∷ [])
     ∷ []
 
 -- ---- the check

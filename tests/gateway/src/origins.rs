@@ -9,6 +9,7 @@ use model::card::EMPTY;
 use model::layout::ALARM_FILE;
 use model::machine::Machine;
 use model::record::Stamp;
+use reader::dates::is_leap_day;
 use reader::ffi;
 use reader::read_back::{read_back, same, Given, Kinds};
 
@@ -35,6 +36,8 @@ pub struct ReadBack {
     pub records: usize,
     pub stamps: usize,
     pub empty: usize,
+    /// Of the records and stamps, those of 29 February.
+    pub leap_days: usize,
     pub kinds: Kinds,
 }
 
@@ -93,6 +96,7 @@ impl Origins {
             }
             Origin::Captured(scan) => {
                 *(if is_stamp { &mut seen.stamps } else { &mut seen.records }) += 1;
+                seen.leap_days += usize::from(is_leap_day(&scan.stamp));
                 read_back(&mut seen.kinds, &given, &scan.table, scan.stamp.into())
             }
         }

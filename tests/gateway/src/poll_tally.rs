@@ -80,10 +80,11 @@ impl PollTally {
         seen.push(counted("13 to a 06", self.undone, OFTEN_ENOUGH));
         seen.push(counted("Memory with a short reply buffer", self.memory_and_reply, OFTEN_ENOUGH));
         seen.push(counted("Foreign with a short reply buffer", self.foreign_and_reply, OFTEN_ENOUGH));
-        let ReadBack { records, stamps, empty, kinds } = &self.read_back;
+        let ReadBack { records, stamps, empty, leap_days, kinds } = &self.read_back;
         seen.push(counted("polled records read back by the reading end", *records, READ_BACK));
         seen.push(counted("polled stamps read back by the reading end", *stamps, READ_BACK));
         seen.push(counted("polled records that the reading end called empty", *empty, OFTEN_ENOUGH));
+        seen.push(counted("29 February polled and read back", *leap_days, OFTEN_ENOUGH));
         let points =
             (1..KINDS.len()).map(|kind| (format!("{} polled and read back", KINDS[kind]), kinds[kind] as usize, READ_BACK));
         seen.extend(points);

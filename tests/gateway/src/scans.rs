@@ -6,6 +6,7 @@ use gateway::ffi::State;
 use model::machine::BOOLEAN_BYTES;
 use model::points::TABLE_BYTES;
 use model::record::Stamp;
+use reader::dates::on_impossible_day;
 use reader::random::{self, Random};
 
 /// A live table as it is lent, of any length.
@@ -66,7 +67,7 @@ pub fn table(random: &mut Random, s: &State) -> Table {
     Table(bytes)
 }
 
-/// A stamp; one in 24 is out of range by one field, and one in 12 is the first or the last there is.
+/// A stamp; one in 24 is out of range, and one in 12 is the first or the last there is.
 pub fn stamp(random: &mut Random) -> Stamp {
     let good = random::stamp(random);
     match random.below(24) {
@@ -77,9 +78,10 @@ pub fn stamp(random: &mut Random) -> Stamp {
     }
 }
 
+/// One field out of its range, or a day that its month lacks.
 fn out_of_range(random: &mut Random, good: Stamp) -> Stamp {
     let over = |random: &mut Random, most: u8| if random.chance(2) { most + 1 } else { 255 };
-    match random.below(8) {
+    match random.below(12) {
         0 => Stamp { month: 0, ..good },
         1 => Stamp { month: over(random, 12), ..good },
         2 => Stamp { day: 0, ..good },
@@ -87,6 +89,7 @@ fn out_of_range(random: &mut Random, good: Stamp) -> Stamp {
         4 => Stamp { year: over(random, 99), ..good },
         5 => Stamp { hour: over(random, 23), ..good },
         6 => Stamp { minute: over(random, 59), ..good },
-        _ => Stamp { second: over(random, 59), ..good },
+        7 => Stamp { second: over(random, 59), ..good },
+        _ => on_impossible_day(random, good),
     }
 }

@@ -3,6 +3,7 @@
 use gateway::ffi::{Slot, State};
 use model::layout::{ALARM_FILE, ALARM_RECORDS, USER_FILES};
 use model::record::Stamp;
+use reader::dates::is_leap_day;
 
 use crate::calls::Call;
 use crate::scans::{bit, booleans};
@@ -192,7 +193,7 @@ const ALL_TYPES: [u16; 4] = [0, 1, 2, 3];
 type Shown = (&'static str, fn(&Sight) -> usize);
 
 /// Everything that a whole run must have seen.
-pub const SIGHTS: [Shown; 31] = [
+pub const SIGHTS: [Shown; 32] = [
     ("records captured", |s| s.files()),
     ("records captured day first", |s| s.files_where(|_| s.before.site.day_first)),
     ("records captured month first", |s| s.files_where(|_| !s.before.site.day_first)),
@@ -204,6 +205,7 @@ pub const SIGHTS: [Shown; 31] = [
     ("scans that captured several files on one trigger", |s| usize::from(s.most_on_one_trigger() > 1)),
     ("scans that captured at least eight files", |s| usize::from(s.files() >= 8)),
     ("records captured by a clock gone back", |s| s.files_where(|_| s.clock_went_back())),
+    ("scans on 29 February", |s| usize::from(is_leap_day(&s.stamp))),
     ("records captured by a trigger moved while running", |s| s.files_where(|file| s.history.moved[file])),
     ("records captured after a stop and a start", |s| s.files_where(|_| s.history.restarted)),
     ("records captured over bytes at pointer 0", |s| s.files_where(|file| s.history.stands && s.pointer(file) == 0)),

@@ -1,7 +1,8 @@
 //! What a run has seen, and what it should have.
 
 use gateway::states::CLAUSES;
-use model::card::{FOREIGN, MEMORY, TABLE};
+use model::card::{CLOCK, FOREIGN, MEMORY, TABLE};
+use reader::dates::is_impossible_day;
 
 use crate::calls::{Call, NAMES, WIDE};
 use crate::compare::Wanted;
@@ -38,6 +39,8 @@ pub struct Tally {
     foreign_and_bad: u32,
     /// Scans with a table of another length and a stamp out of range.
     table_and_clock: u32,
+    /// Scans refused for nothing but a day that its month lacks.
+    impossible_days: u32,
     zeroed: u32,
     /// How often each argument of WIDE alone was what a call was refused for.
     pub wide: [u32; WIDE.len()],
@@ -58,7 +61,10 @@ impl Tally {
         }
         match call {
             Call::Start => self.zeroed += u32::from(wanted.lent.archive != lent.archive),
-            Call::Scan { stamp, .. } => self.table_and_clock += u32::from(number == TABLE && !stamp.in_range()),
+            Call::Scan { stamp, .. } => {
+                self.table_and_clock += u32::from(number == TABLE && !stamp.in_range());
+                self.impossible_days += u32::from(number == CLOCK && is_impossible_day(stamp));
+            }
             Call::Poll { frame, room } => self.polls.count(number, &frame.0, *room),
             _ => {}
         }
@@ -92,6 +98,7 @@ impl Tally {
             ("Foreign with another length", self.foreign_and_memory),
             ("Foreign with a bad argument", self.foreign_and_bad),
             ("Table with a stamp out of range", self.table_and_clock),
+            ("Clock for a day that its month lacks", self.impossible_days),
             ("a Start that zeroes bytes", self.zeroed),
         ];
         seldom.extend(counted.iter().filter(|(_, seen)| *seen < 100).map(|(name, _)| name.to_string()));
@@ -118,6 +125,7 @@ impl Tally {
         }
         println!("Foreign with another length {}, with a bad argument {}", self.foreign_and_memory, self.foreign_and_bad);
         println!("Table with a stamp out of range {}; Starts that zeroed bytes {}", self.table_and_clock, self.zeroed);
+        println!("Clock for a day that its month lacks {}", self.impossible_days);
         for ((name, _), seen) in SIGHTS.iter().zip(&self.sights) {
             println!("{name}: {seen}");
         }

@@ -1,5 +1,6 @@
 //! A plain Rust model of the Windrow gateway, written from document 01
-//! (`01-scope.md`) and its source documents 000 and 002 alone.
+//! (`01-scope.md`), its source documents 000 and 002, and the requests of
+//! document 02 (`02-change-requests.md`) that have landed, alone.
 //!
 //! It is meant to be read beside document 01 and to be compared with the
 //! gateway library. It favours clarity over speed.

@@ -146,7 +146,7 @@ mod tests {
     use super::*;
     use crate::frames::read_reply;
     use crate::points::{groups_from_first_place, TABLE_BYTES};
-    use crate::record::{captured_record, AUGUST};
+    use crate::record::{captured_record, february, AUGUST};
 
     fn reply(record: &[u8]) -> Vec<u8> {
         read_reply(1, record)
@@ -282,6 +282,21 @@ mod tests {
         assert_eq!(value(&groups, false, &empty, 0, 0), refusal(15));
         let stampless = reply(&[0, 0, 0, 0, 0, 0, 0, 1]);
         assert_eq!(record(&groups, false, &stampless), refusal(14));
+    }
+
+    /// Document 02, L1: an impossible day is Garbled. 29 February goes by the
+    /// record's own year, and a record of zeros stays Empty.
+    #[test]
+    fn a_day_that_does_not_exist_is_garbled() {
+        let bare_stamp = [0; 32];
+        for day_first in [false, true] {
+            let read = |date: Stamp| stamp(&bare_stamp, day_first, &reply(&date.bytes(day_first)));
+            assert_eq!(read(february(30, 2024)), refusal(14));
+            assert_eq!(read(february(29, 2023)), refusal(14));
+            assert_eq!(read(february(29, 2024)), Ok(february(29, 2024)));
+            let empty = reply(&[0; 6]);
+            assert_eq!(stamp(&bare_stamp, day_first, &empty), refusal(15));
+        }
     }
 
     /// Demand 2's blunder: Empty told of a filled record.

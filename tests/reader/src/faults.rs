@@ -2,7 +2,10 @@
 
 use model::card::{DONE, EMPTY, GARBLED};
 use model::crc::with_crc;
+use model::record::Stamp;
+use reader::dates::on_impossible_day;
 use reader::random::Random;
+use reader::read_back::Given;
 
 const RECORD: usize = 3;
 const STAMP: usize = 6;
@@ -11,52 +14,59 @@ const STAMP: usize = 6;
 pub struct Fault {
     pub name: &'static str,
     pub number: u8,
-    pub make: fn(&mut Random, &[u8]) -> Vec<u8>,
+    pub make: fn(&mut Random, &Given) -> Vec<u8>,
 }
 
-const fn fault(name: &'static str, number: u8, make: fn(&mut Random, &[u8]) -> Vec<u8>) -> Fault {
+const fn fault(name: &'static str, number: u8, make: fn(&mut Random, &Given) -> Vec<u8>) -> Fault {
     Fault { name, number, make }
 }
 
 /// Each but the first three has a right CRC, so that the change itself is what is told.
-pub const FAULTS: [Fault; 14] = [
-    fault("cut short", GARBLED, |random, frame| frame[..random.below(frame.len() as u64) as usize].to_vec()),
-    fault("bytes behind the CRC", GARBLED, |random, frame| [frame, &some_bytes(random)].concat()),
-    fault("a wrong CRC", GARBLED, |random, frame| {
-        let mut copy = frame.to_vec();
-        copy[frame.len() - 1 - random.below(2) as usize] ^= 1 << random.below(8);
+pub const FAULTS: [Fault; 15] = [
+    fault("cut short", GARBLED, |random, right| right.frame[..random.below(right.frame.len() as u64) as usize].to_vec()),
+    fault("bytes behind the CRC", GARBLED, |random, right| [right.frame, &some_bytes(random)].concat()),
+    fault("a wrong CRC", GARBLED, |random, right| {
+        let mut copy = right.frame.to_vec();
+        copy[right.frame.len() - 1 - random.below(2) as usize] ^= 1 << random.below(8);
         copy
     }),
-    fault("longer than its record", GARBLED, |random, frame| changed(frame, |body| body.extend(some_bytes(random)))),
-    fault("longer than its record by the byte count too", GARBLED, |random, frame| {
-        changed(frame, |body| {
+    fault("longer than its record", GARBLED, |random, right| changed(right, |body| body.extend(some_bytes(random)))),
+    fault("longer than its record by the byte count too", GARBLED, |random, right| {
+        changed(right, |body| {
             body.extend(some_bytes(random));
             body[2] = (body.len() - RECORD) as u8;
         })
     }),
-    fault("shorter than its record", GARBLED, |random, frame| {
-        changed(frame, |body| body.truncate(body.len() - 1 - random.below(3) as usize))
+    fault("shorter than its record", GARBLED, |random, right| {
+        changed(right, |body| body.truncate(body.len() - 1 - random.below(3) as usize))
     }),
-    fault("another unit", GARBLED, |random, frame| changed(frame, |body| body[0] = one_of(random, [0, 248, 255]))),
-    fault("another function", GARBLED, |random, frame| changed(frame, |body| body[1] = one_of(random, [4, 6, 0x83]))),
-    fault("another byte count", GARBLED, |random, frame| {
-        changed(frame, |body| body[2] = body[2].wrapping_add(1 + random.below(255) as u8))
+    fault("another unit", GARBLED, |random, right| changed(right, |body| body[0] = one_of(random, [0, 248, 255]))),
+    fault("another function", GARBLED, |random, right| changed(right, |body| body[1] = one_of(random, [4, 6, 0x83]))),
+    fault("another byte count", GARBLED, |random, right| {
+        changed(right, |body| body[2] = body[2].wrapping_add(1 + random.below(255) as u8))
     }),
-    fault("a stamp out of range", GARBLED, |random, frame| {
+    fault("a stamp out of range", GARBLED, |random, right| {
         const EDGES: [u8; 7] = [0, 13, 24, 32, 60, 100, 255];
-        changed(frame, |body| body[RECORD + random.below(STAMP as u64) as usize] = EDGES[random.below(7) as usize])
+        changed(right, |body| body[RECORD + random.below(STAMP as u64) as usize] = EDGES[random.below(7) as usize])
     }),
-    fault("all zeros", EMPTY, |_, frame| changed(frame, |body| body[RECORD..].fill(0))),
-    fault("zeros for the stamp only", GARBLED, |_, frame| changed(frame, |body| body[RECORD..RECORD + STAMP].fill(0))),
-    fault("zeros but for one byte", GARBLED, |random, frame| {
-        changed(frame, |body| {
+    fault("a day that its month lacks", GARBLED, |random, right| {
+        changed(right, |body| {
+            let stamp = &mut body[RECORD..RECORD + STAMP];
+            let moved = on_impossible_day(random, Stamp::from_bytes(stamp, right.day_first));
+            stamp.copy_from_slice(&moved.bytes(right.day_first));
+        })
+    }),
+    fault("all zeros", EMPTY, |_, right| changed(right, |body| body[RECORD..].fill(0))),
+    fault("zeros for the stamp only", GARBLED, |_, right| changed(right, |body| body[RECORD..RECORD + STAMP].fill(0))),
+    fault("zeros but for one byte", GARBLED, |random, right| {
+        changed(right, |body| {
             body[RECORD..].fill(0);
             let at =
                 if random.chance(2) { body.len() - 1 } else { RECORD + random.below((body.len() - RECORD) as u64) as usize };
             body[at] = 1 + random.below(255) as u8;
         })
     }),
-    fault("zeros behind the stamp", DONE, |_, frame| changed(frame, |body| body[RECORD + STAMP..].fill(0))),
+    fault("zeros behind the stamp", DONE, |_, right| changed(right, |body| body[RECORD + STAMP..].fill(0))),
 ];
 
 fn one_of(random: &mut Random, bytes: [u8; 3]) -> u8 {
@@ -69,8 +79,8 @@ fn some_bytes(random: &mut Random) -> Vec<u8> {
 }
 
 /// The frame with another body and a right CRC.
-fn changed(frame: &[u8], change: impl FnOnce(&mut Vec<u8>)) -> Vec<u8> {
-    let mut body = frame[..frame.len() - 2].to_vec();
+fn changed(right: &Given, change: impl FnOnce(&mut Vec<u8>)) -> Vec<u8> {
+    let mut body = right.frame[..right.frame.len() - 2].to_vec();
     change(&mut body);
     with_crc(body)
 }

@@ -15,6 +15,7 @@ use std::process::exit;
 use model::frames::read_reply;
 use model::points::judge_definition;
 use model::record::captured_record;
+use reader::dates::is_leap_day;
 use reader::random::{groups, stamp, Random};
 use reader::read_back::{read_back, Given};
 use reader::seeds::{argument, spread, SEED};
@@ -37,9 +38,10 @@ fn round(random: &mut Random, tally: &mut Tally) -> Result<(), String> {
     agree(random, tally, &right).map_err(|text| format!("{text}\n{right:?}"))?;
     if is_good {
         read_back(&mut tally.kinds, &right, &table, stamp.into()).map_err(|text| format!("{text}\n{right:?}"))?;
+        tally.leap_days += u32::from(is_leap_day(&stamp));
     }
     let index = random.below(FAULTS.len() as u64) as usize;
-    let faulty = Given { frame: &(FAULTS[index].make)(random, &frame), ..right };
+    let faulty = Given { frame: &(FAULTS[index].make)(random, &right), ..right };
     let number = agree(random, tally, &faulty).map_err(|text| format!("{}: {text}\n{faulty:?}", FAULTS[index].name))?;
     tally.faults[index] += u32::from(is_good && number == FAULTS[index].number.into());
     let listed = Given { groups: &other_length(random, &numbers), ..right };

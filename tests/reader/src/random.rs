@@ -3,6 +3,8 @@
 use model::points::ROWS;
 use model::record::Stamp;
 
+use crate::dates::date;
+
 /// xorshift64*: enough for tests, and the same on every machine.
 pub struct Random(u64);
 
@@ -64,12 +66,6 @@ pub fn groups(random: &mut Random) -> [u16; 32] {
 
 /// A stamp in range.
 pub fn stamp(random: &mut Random) -> Stamp {
-    Stamp {
-        month: 1 + random.below(12) as u8,
-        day: 1 + random.below(31) as u8,
-        year: random.below(100) as u8,
-        hour: random.below(24) as u8,
-        minute: random.below(60) as u8,
-        second: random.below(60) as u8,
-    }
+    let (month, day, year) = date(random);
+    Stamp { month, day, year, hour: random.below(24) as u8, minute: random.below(60) as u8, second: random.below(60) as u8 }
 }

@@ -18,6 +18,8 @@ pub struct Tally {
     pub points: [u32; 17],
     /// How often a point of each kind was read back from a capture.
     pub kinds: Kinds,
+    /// How often such a capture was of 29 February.
+    pub leap_days: u32,
     /// How often each fault was told by its number.
     pub faults: [u32; FAULTS.len()],
     /// Lists of more than 32 numbers, and of fewer, whose first ones fit the frame.
@@ -35,6 +37,7 @@ impl Tally {
         seen.extend(OF_POINTS.map(|number| (format!("stretch answering {number}"), self.stretches[number])));
         seen.extend(OF_POINTS.map(|number| (format!("point answering {number}"), self.points[number])));
         seen.extend((1..KINDS.len()).map(|kind| (format!("{} read back", KINDS[kind]), self.kinds[kind])));
+        seen.push(("29 February read back".to_string(), self.leap_days));
         seen.extend(FAULTS.iter().zip(self.faults).map(|(fault, n)| (format!("{}, told by {}", fault.name, fault.number), n)));
         seen.push(("a list of more than 32 numbers".to_string(), self.long_lists));
         seen.push(("a list of fewer than 32 numbers".to_string(), self.short_lists));

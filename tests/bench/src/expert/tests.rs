@@ -1,12 +1,13 @@
-//! The yardstick does what the library does, on random states, damaged ones, and random frames.
+//! The yardstick does what the library does, on random states, damaged ones, and random frames; its calendar is the model's.
 
 use ::gateway::ffi::{self, State};
 use ::gateway::frames::{any_frame, any_room};
 use ::gateway::states::{damage, standing, CLAUSES};
 use model::frames::read_reply;
-use model::record::captured_record;
+use model::record::{captured_record, every_date};
 use reader::random::{groups, stamp, Random};
 
+use super::records::in_range;
 use super::{gateway, polls, reader as plain_reader};
 
 const ROUNDS: usize = 2_000;
@@ -99,4 +100,11 @@ fn a_point_is_the_librarys() {
         }
     }
     assert!([0, 7, 8, 14, 15, 16].iter().all(|&number| seen[number] > 10), "numbers of points {seen:?}");
+}
+
+#[test]
+fn the_calendar_is_the_models() {
+    for date in every_date() {
+        assert_eq!(in_range(&date.into()), date.in_range(), "{date:?}");
+    }
 }

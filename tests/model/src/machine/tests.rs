@@ -6,7 +6,7 @@ use crate::card::Refusal;
 use crate::crc;
 use crate::frames::request;
 use crate::points::{groups_from_first_place, TABLE_BYTES};
-use crate::record::{Stamp, AUGUST};
+use crate::record::{february, Stamp, AUGUST};
 
 mod frames;
 mod mixed_run;

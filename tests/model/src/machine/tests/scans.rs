@@ -159,6 +159,20 @@ fn scan_answers_the_lowest_that_applies_and_changes_nothing() {
     assert_eq!(machine, before);
 }
 
+/// Document 02, L1: a day must exist in its month.
+#[test]
+fn a_day_that_does_not_exist_is_refused_and_changes_nothing() {
+    let mut machine = running_with_file_1(4);
+    scan(&mut machine, &[], 1);
+    let before = machine.clone();
+    let raised = table_with(&[FLAG]);
+    refused(machine.scan(ARCHIVE, &raised, february(30, 2024)), 4);
+    refused(machine.scan(ARCHIVE, &raised, february(29, 2023)), 4);
+    assert_eq!(machine, before);
+    done(machine.scan(ARCHIVE, &raised, february(29, 2024)));
+    assert_eq!(machine.record(1, 1)[..6], [2, 29, 24, 11, 36, 52]);
+}
+
 #[test]
 fn a_clock_may_go_back() {
     let mut machine = running_with_file_1(4);

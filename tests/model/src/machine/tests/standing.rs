@@ -64,6 +64,19 @@ fn record_k_is_its_slots_bytes() {
     assert_eq!(ask(&mut machine, UNIT, 3, 721, 4), junk);
 }
 
+/// Document 02, L1: an old record reads as Garbled, and is polled as before.
+#[test]
+fn an_old_record_of_an_impossible_day_is_polled_as_it_stands() {
+    let raw = running_with_file_1(4).raw_state();
+    let mut memory = [JUNK; ARCHIVE];
+    memory[..6].copy_from_slice(&february(30, 2024).bytes(false));
+    let mut machine = Machine::standing(&raw, None, &memory);
+    let record = read_reply(&[2, 30, 24, 11, 36, 52, JUNK, JUNK]);
+    assert_eq!(ask(&mut machine, UNIT, 3, 721, 1), record);
+    let stamp = read_reply(&[2, 30, 24, 11, 36, 52]);
+    assert_eq!(ask(&mut machine, UNIT, 3, 771, 1), stamp);
+}
+
 #[test]
 fn an_alarm_file_wraps_inside_one_scan() {
     let mut raw = fresh().raw_state();
