@@ -17,12 +17,18 @@ static int month_days(int year, int month)
     return days[month - 1] + (month == 2 && is_leap(year));
 }
 
+bool calendar_has(struct windrow_stamp stamp)
+{
+    return stamp.year < YEARS && stamp.month >= 1 && stamp.month <= 12 && stamp.day >= 1
+           && stamp.day <= month_days(stamp.year, stamp.month) && stamp.hour <= 23 && stamp.minute <= 59 && stamp.second <= 59;
+}
+
 int64_t calendar_seconds(struct windrow_stamp stamp)
 {
     int64_t days = stamp.day - 1;
     for (int year = 0; year < stamp.year; year++)
         days += is_leap(year) ? 366 : 365;
-    for (int month = 1; month < stamp.month && month <= 12; month++)
+    for (int month = 1; month < stamp.month; month++)
         days += month_days(stamp.year, month);
     return days * DAY_SECONDS + stamp.hour * 3600 + stamp.minute * 60 + stamp.second;
 }
@@ -53,11 +59,13 @@ bool calendar_parse(const char *text, struct windrow_stamp *stamp)
     if (sscanf(text, "%4u-%2u-%2uT%2u:%2u:%2u%n", &year, &month, &day, &hour, &minute, &second, &length) != 6
         || length != CALENDAR_TEXT - 1 || text[length] != 0 || strpbrk(text, "+ ") != NULL)
         return false;
-    if (year < WINDROW_CENTURY || year >= WINDROW_CENTURY + YEARS || month < 1 || month > 12 || day < 1
-        || day > (unsigned)month_days((int)year - WINDROW_CENTURY, (int)month) || hour > 23 || minute > 59 || second > 59)
+    if (year < WINDROW_CENTURY || year >= WINDROW_CENTURY + YEARS)
         return false;
+    /* two characters make 0 to 99 or, with a minus sign, 247 and more once cut to a byte, which no field may be */
     struct windrow_stamp read = {(uint8_t)month, (uint8_t)day,    (uint8_t)(year - WINDROW_CENTURY),
                                  (uint8_t)hour,  (uint8_t)minute, (uint8_t)second};
+    if (!calendar_has(read))
+        return false;
     *stamp = read;
     return true;
 }

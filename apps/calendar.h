@@ -1,4 +1,4 @@
-/* Dates for the hosts: a clock that can run fast has to add seconds to a date. The library only ever judges a date's ranges. */
+/* Dates for the hosts: a clock that can run fast has to add seconds to a date. The library only ever judges a date. */
 #ifndef CALENDAR_H
 #define CALENDAR_H
 
@@ -8,7 +8,10 @@
 #include "windrow_limits.h"
 #include "windrow_stamp.h"
 
-/* Seconds from the start of 2000 to a stamp, and back. A stamp is good from 2000 to 2099. */
+/* Whether there is such a date, from 2000 to 2099, and such a time: what windrow_stamp.h says of a stamp. */
+bool calendar_has(struct windrow_stamp stamp);
+
+/* Seconds from the start of 2000 to a stamp that the calendar has, and back. */
 int64_t calendar_seconds(struct windrow_stamp stamp);
 struct windrow_stamp calendar_stamp(int64_t seconds);
 

@@ -18,8 +18,8 @@ static const char help[] =
     "\n"
     "STORE is the file that windrow-gateway keeps with --store; STATE and ARCHIVE are the bytes of a struct windrow_state\n"
     "and of the archive memory that firmware has saved. Written are flags and settings, for each file its definition,\n"
-    "n, pointer, oldest and newest stamp, and its records as CSV, oldest first. A Foreign state is told by the clauses\n"
-    "that it breaks, and the status is then 1.\n"
+    "n, pointer, oldest and newest stamp, and its records as CSV, oldest first. A record whose date or time does not\n"
+    "exist is told and left out, a Foreign state told by the clauses that it breaks; the status is then 1.\n"
     "\n"
     "  --file F      only the records of file F, 1-11, as CSV\n"
     "  --help        this page\n";
@@ -130,7 +130,7 @@ static struct file file_of(const struct store *store, uint32_t number)
 
 /* What a walk along a file has found. */
 struct found {
-    uint32_t held;         /* records that are not empty */
+    uint32_t held;         /* records that could be read */
     uint32_t record_bytes; /* stamp included */
     struct windrow_stamp oldest, newest;
     bool fine; /* every record could be read */
@@ -147,8 +147,10 @@ static struct found write_records(FILE *out, struct source *source, struct file 
     fputc('\n', out);
     for (uint32_t i = 1; i <= registers.limit; i++) {
         uint16_t number = number_after(registers.pointer, i, registers.limit);
-        if (!poll_record(source, file, number, &row))
-            found.fine = false;
+        bool polled = poll_record(source, file, number, &row);
+        if (polled && row.undated)
+            tell_left_out(file, number, row.text);
+        found.fine &= polled && !row.undated;
         found.record_bytes = row.bytes;
         if (row.card != WINDROW_DONE)
             continue;

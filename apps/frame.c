@@ -183,7 +183,6 @@ static bool tell_record(const struct frame *frame, const struct settings *settin
     static struct row row;
     static const uint16_t stamp_alone[WINDROW_GROUP_NUMBERS] = {0};
     struct file file = {number, number == WINDROW_ALARM_FILE ? NULL : settings->groups[number - 1]};
-    char text[REFUSAL_TEXT];
     const char *what = "record";
     take_reply(&row, file, settings->day_first, frame->bytes, frame->length);
     if (row.card == WINDROW_GARBLED && row.bytes == WINDROW_STAMP_BYTES) {
@@ -194,7 +193,7 @@ static bool tell_record(const struct frame *frame, const struct settings *settin
     }
     printf("as a %s of file %lu", what, (unsigned long)number);
     if (row.card != WINDROW_DONE) {
-        printf(": %s\n", refusal_of(text, &row, file, frame->bytes, frame->length));
+        printf(": %s\n", row.text);
         return row.card == WINDROW_EMPTY;
     }
     printf(", %lu bytes:\n", (unsigned long)row.bytes);

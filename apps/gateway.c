@@ -139,6 +139,15 @@ static void save(const struct host *host)
         store_save(&host->store, host->options.store);
 }
 
+/* A scan whose date or time does not exist, as a clock may give one after its battery was replaced. */
+static void tell_passed_over(const struct host *host)
+{
+    struct windrow_stamp stamp = host->stamp;
+    complain("scan %lu is refused, and passed over: %u-%02u-%02uT%02u:%02u:%02u is no date and time",
+             (unsigned long)host->store.scans + 1, WINDROW_CENTURY + stamp.year, stamp.month, stamp.day, stamp.hour, stamp.minute,
+             stamp.second);
+}
+
 /* Once a cycle. Whatever a scan captures, it also changes the state: the flag that rose is remembered. */
 static void scan(struct host *host)
 {
@@ -148,7 +157,7 @@ static void scan(struct host *host)
     uint32_t number =
         windrow_scan(&store->state, store->archive, store->archive_length, host->table, sizeof host->table, host->stamp);
     if (number == WINDROW_CLOCK)
-        complain("scan %lu is refused for its date, and passed over", (unsigned long)store->scans + 1);
+        tell_passed_over(host);
     else if (number != WINDROW_DONE)
         setup_refused("a scan", number);
     if (host->record != NULL && !trace_append(host->record, host->stamp, host->table))

@@ -132,13 +132,8 @@ static void take_alarm(struct row *row, bool day_first, const uint8_t *frame, si
              alarm.bit, cell, (long)alarm.passes, (long)alarm.litres);
 }
 
-void take_reply(struct row *row, struct file file, bool day_first, const uint8_t *frame, size_t length)
+static void take_points(struct row *row, struct file file, bool day_first, const uint8_t *frame, size_t length)
 {
-    row->bytes = length > 2 ? frame[2] : 0;
-    if (file.number == WINDROW_ALARM_FILE) {
-        take_alarm(row, day_first, frame, length);
-        return;
-    }
     struct windrow_stamp_answer when = windrow_reader_stamp(file.groups, WINDROW_GROUP_NUMBERS, day_first, frame, length);
     row->card = when.number;
     if (when.number != WINDROW_DONE)
@@ -148,28 +143,64 @@ void take_reply(struct row *row, struct file file, bool day_first, const uint8_t
     add_points(row, file.groups, day_first, frame, length);
 }
 
-const char *refusal_of(char text[REFUSAL_TEXT], const struct row *row, struct file file, const uint8_t *frame, size_t length)
+static void take_record(struct row *row, struct file file, bool day_first, const uint8_t *frame, size_t length)
+{
+    if (file.number == WINDROW_ALARM_FILE)
+        take_alarm(row, day_first, frame, length);
+    else
+        take_points(row, file, day_first, frame, length);
+}
+
+/* Whether a record would be taken in the other date order. */
+static bool is_dated_otherwise(struct file file, bool day_first, const uint8_t *frame, size_t length)
+{
+    static struct row other;
+    take_record(&other, file, !day_first, frame, length);
+    return other.card == WINDROW_DONE;
+}
+
+/* The reply is right but for the record's stamp. */
+static void tell_stamp(struct row *row, struct file file, bool day_first, const uint8_t *frame, size_t length)
+{
+    const uint8_t *stamp = &frame[WINDROW_RECORD_AT];
+    row->undated = !is_dated_otherwise(file, day_first, frame, length);
+    snprintf(row->text, sizeof row->text, "14 Garbled: its stamp %02X %02X %02X %02X %02X %02X %s", stamp[0], stamp[1], stamp[2],
+             stamp[3], stamp[4], stamp[5],
+             row->undated ? "is no date and time: damaged, or filed before version 1.1?"
+                          : "is a date in the other order only: the wrong date order, or damaged?");
+}
+
+/* Why a record was not taken. */
+static void tell_refusal(struct row *row, struct file file, bool day_first, const uint8_t *frame, size_t length)
 {
     char card[CARD_TEXT];
     size_t wanted = file.number == WINDROW_ALARM_FILE ? WINDROW_ALARM_BYTES : windrow_record_bytes(file.groups);
     if (row->card != WINDROW_GARBLED)
-        snprintf(text, REFUSAL_TEXT, "%s", card_text(card, row->card));
+        snprintf(row->text, sizeof row->text, "%s", card_text(card, row->card));
     else if (!windrow_has_crc(frame, length) || frame[1] != WINDROW_READ || length != 5u + frame[2])
-        snprintf(text, REFUSAL_TEXT, "14 Garbled: it is no reply to 03 with a right CRC");
+        snprintf(row->text, sizeof row->text, "14 Garbled: it is no reply to 03 with a right CRC");
     else if (row->bytes != wanted)
-        snprintf(text, REFUSAL_TEXT, "14 Garbled: it has %lu bytes, and a record of this definition has %zu",
+        snprintf(row->text, sizeof row->text, "14 Garbled: it has %lu bytes, and a record of this definition has %zu",
                  (unsigned long)row->bytes, wanted);
     else if (frame[0] < WINDROW_LEAST_UNIT || frame[0] > WINDROW_MOST_UNIT)
-        snprintf(text, REFUSAL_TEXT, "14 Garbled: its unit %u is not 1-247", frame[0]);
+        snprintf(row->text, sizeof row->text, "14 Garbled: its unit %u is not 1-247", frame[0]);
     else
-        snprintf(text, REFUSAL_TEXT, "14 Garbled: its stamp is out of range: damaged, or dates in the other order?");
-    return text;
+        tell_stamp(row, file, day_first, frame, length);
+}
+
+void take_reply(struct row *row, struct file file, bool day_first, const uint8_t *frame, size_t length)
+{
+    row->bytes = length > 2 ? frame[2] : 0;
+    row->undated = false;
+    take_record(row, file, day_first, frame, length);
+    if (row->card != WINDROW_DONE)
+        tell_refusal(row, file, day_first, frame, length);
 }
 
 bool poll_record(struct source *source, struct file file, uint16_t number, struct row *row)
 {
     uint8_t frame[WINDROW_LONGEST_FRAME];
-    char what[64], text[REFUSAL_TEXT];
+    char what[64];
     size_t length;
     snprintf(what, sizeof what, "file %lu, record %u", (unsigned long)file.number, number);
     row->card = WINDROW_GARBLED; /* until a reply says otherwise */
@@ -177,11 +208,16 @@ bool poll_record(struct source *source, struct file file, uint16_t number, struc
     if (!ask(source, (uint16_t)(WINDROW_NUMBERED_RECORD + file.number), number, what, frame, &length))
         return false;
     take_reply(row, file, source->day_first, frame, length);
-    if (row->card == WINDROW_DONE || row->card == WINDROW_EMPTY)
+    if (row->card == WINDROW_DONE || row->card == WINDROW_EMPTY || row->undated)
         return true;
     if (!source->quiet)
-        complain("%s: %s", what, refusal_of(text, row, file, frame, length));
+        complain("%s: %s", what, row->text);
     return false;
+}
+
+void tell_left_out(struct file file, uint16_t number, const char *why)
+{
+    complain("file %lu, record %u: %s", (unsigned long)file.number, number, why);
 }
 
 void write_headings(FILE *out, struct file file)

@@ -43,23 +43,26 @@ struct file {
 #define ROW_BYTES 8192
 struct row {
     uint32_t card; /* WINDROW_DONE, WINDROW_EMPTY, or why the record can't be taken */
+    bool undated; /* it can't for its stamp alone, which is a date and time in neither order */
     uint32_t bytes; /* of the record, stamp included */
     struct windrow_stamp stamp;
-    char text[ROW_BYTES];
+    char text[ROW_BYTES]; /* the row; of a record that can't be taken, why */
 };
 
 /* Asks for every file's three registers; false, and it is told, where no right answer comes. */
 bool poll_registers(struct source *source, struct registers files[ALL_FILES]);
 
-/* Asks for a record by its number; false, and it is told, where no right answer comes. A record that is empty is an answer. */
+/*
+ * Asks for a record by its number; false, and it is told, where no right answer comes. A record that is empty is an answer, and so
+ * is one that is undated: a gateway before 1.1 may have filed it, and the others of its file are good. It is for the caller to tell.
+ */
 bool poll_record(struct source *source, struct file file, uint16_t number, struct row *row);
+
+/* Says why a record is left out. */
+void tell_left_out(struct file file, uint16_t number, const char *why);
 
 /* Takes the record out of a reply. */
 void take_reply(struct row *row, struct file file, bool day_first, const uint8_t *frame, size_t length);
-
-/* Why take_reply has not taken a record, in words. */
-#define REFUSAL_TEXT 160
-const char *refusal_of(char text[REFUSAL_TEXT], const struct row *row, struct file file, const uint8_t *frame, size_t length);
 
 /* The headings of a file's columns, from the stamp on, without a newline. */
 void write_headings(FILE *out, struct file file);

@@ -21,6 +21,7 @@ static const char help[] =
     "\n"
     "FILE is 1-10, or 11 for the alarm file. One FILE alone goes to standard output; FILE=CSV goes to that file, which\n"
     "is replaced when all is read. Without a FILE, n, pointer and requested number of every file are written.\n"
+    "A record whose date or time does not exist is told and left out; the status is then 1.\n"
     "SETTINGS are the gateway's own: unit, date order, the files' groups, speed and parity of the line.\n"
     "\n"
     "  --follow      goes on with each new record, until it is interrupted (then it looks once more)\n"
@@ -47,6 +48,7 @@ struct reader {
     bool follow;
     bool following; /* its first look is over: a signal then ends it after one look more, and before at once */
     int every_ms;
+    bool left_out; /* a record that is undated was */
     struct source source;
     struct reading readings[ALL_FILES];
     int count;
@@ -101,18 +103,24 @@ static void show_progress(const struct reading *reading, uint32_t done, uint32_t
                 done == all ? "\n" : "");
 }
 
-static void free_rows(char **rows, uint32_t count)
+/* A record as it was read: its row, or why it is left out; no text where it is empty. */
+struct read_row {
+    char *text;
+    bool undated;
+};
+
+static void free_rows(struct read_row *rows, uint32_t count)
 {
     for (uint32_t i = 0; i < count; i++)
-        free(rows[i]);
+        free(rows[i].text);
     free(rows);
 }
 
-/* The rows of `count` records from number `first` on, null where one is empty; null where one can't be had. */
-static char **read_rows(struct reader *reader, const struct reading *reading, uint16_t first, uint32_t count)
+/* The rows of `count` records from number `first` on; null where one can't be had. */
+static struct read_row *read_rows(struct reader *reader, const struct reading *reading, uint16_t first, uint32_t count)
 {
     static struct row row;
-    char **rows = calloc(count, sizeof *rows);
+    struct read_row *rows = calloc(count, sizeof *rows);
     if (rows == NULL)
         give_up("there is no memory for %lu rows", (unsigned long)count);
     for (uint32_t i = 0; i < count; i++) {
@@ -120,7 +128,8 @@ static char **read_rows(struct reader *reader, const struct reading *reading, ui
             free_rows(rows, count);
             return NULL;
         }
-        if (row.card == WINDROW_DONE && (rows[i] = strdup(row.text)) == NULL)
+        rows[i].undated = row.undated;
+        if (row.card != WINDROW_EMPTY && (rows[i].text = strdup(row.text)) == NULL)
             give_up("there is no memory for a row");
         show_progress(reading, i + 1, count);
     }
@@ -196,12 +205,21 @@ static uint32_t records_to_read(const struct reading *reading, bool first, struc
     return (uint32_t)(now.pointer + now.limit - reading->last) % now.limit;
 }
 
+static void write_row(struct reader *reader, struct reading *reading, uint16_t number, struct read_row row)
+{
+    if (row.undated)
+        tell_left_out(reading->file, number, row.text);
+    else if (row.text != NULL)
+        fprintf(reading->out, "%u,%s\n", number, row.text);
+    reader->left_out |= row.undated;
+}
+
 /* Reads so many records up to the pointer, and writes those that were not captured over meanwhile. */
 static bool copy_records(struct reader *reader, struct reading *reading, uint32_t count, bool first, struct registers then)
 {
     struct registers now[ALL_FILES];
     uint16_t oldest = number_after(then.pointer, then.limit - count + 1, then.limit);
-    char **rows = read_rows(reader, reading, oldest, count);
+    struct read_row *rows = read_rows(reader, reading, oldest, count);
     if (rows == NULL)
         return false;
     bool answered = poll_registers(&reader->source, now);
@@ -212,8 +230,7 @@ static bool copy_records(struct reader *reader, struct reading *reading, uint32_
             complain("file %lu: %lu records were captured over before they were read", (unsigned long)reading->file.number,
                      (unsigned long)over);
         for (uint32_t i = over; i < count; i++)
-            if (rows[i] != NULL)
-                fprintf(reading->out, "%u,%s\n", number_after(oldest, i, then.limit), rows[i]);
+            write_row(reader, reading, number_after(oldest, i, then.limit), rows[i]);
     }
     free_rows(rows, count);
     return answered;
@@ -377,5 +394,5 @@ int main(int count, char **words)
     if (fine && reader.follow)
         fine = follow(&reader);
     finish_output();
-    return fine ? EXIT_FINE : EXIT_TROUBLE;
+    return fine && !reader.left_out ? EXIT_FINE : EXIT_TROUBLE;
 }

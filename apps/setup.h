@@ -19,8 +19,8 @@ void setup_fresh(struct store *store, const struct settings *settings);
 void setup_again(struct store *store, const struct settings *settings, const char *path, bool redefine);
 
 /*
- * Makes the timed changes from number `next` on that are due at a stamp, none where it is out of range; answers the number of
- * the first that is not due.
+ * Makes the timed changes from number `next` on that are due at a stamp, none where it is no date and time; answers the number
+ * of the first that is not due.
  */
 size_t setup_timed(struct store *store, const struct settings *settings, size_t next, struct windrow_stamp now);
 

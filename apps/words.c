@@ -9,7 +9,7 @@ static const char *const meanings[] = {
     [WINDROW_MEMORY] = "archive memory of the wrong length (a fresh gateway takes 11,000 to 1,048,576 bytes)",
     [WINDROW_FOREIGN] = "a state against the rules, or a unit that is not 1-247",
     [WINDROW_TABLE] = "a live table that is not 1,424 bytes",
-    [WINDROW_CLOCK] = "a date or a time out of range",
+    [WINDROW_CLOCK] = "no such date from 2000 to 2099, or no such time",
     [WINDROW_FILE] = "the file is not 1-10",
     [WINDROW_LOCKED] = "files can be defined only while unlocked",
     [WINDROW_GROUP] = "a group is not within one row of the live table",
@@ -19,7 +19,7 @@ static const char *const meanings[] = {
     [WINDROW_ROOM] = "the files do not fit the archive memory",
     [WINDROW_ALARM] = "the slot is not 1-32, or its flag, type or transducer is not one",
     [WINDROW_REPLY] = "a reply buffer of under 256 bytes",
-    [WINDROW_GARBLED] = "no reply with a record of these groups",
+    [WINDROW_GARBLED] = "no reply with a record of these groups, or one whose date or time does not exist",
     [WINDROW_EMPTY] = "nothing has been captured there",
     [WINDROW_BEYOND] = "there is no such place or point",
 };

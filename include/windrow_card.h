@@ -15,7 +15,7 @@ enum windrow_card {
                              the layout exceeds the archive, a pointer or requested number is over n, or the unit is not 1-247, as
                              in the zeros of a refused fresh; fresh: the unit */
     WINDROW_TABLE = 3,    /* the live table is not 1,424 bytes */
-    WINDROW_CLOCK = 4,    /* the stamp is out of range */
+    WINDROW_CLOCK = 4,    /* the stamp is no date from 2000 to 2099 or no time: windrow_stamp.h */
     WINDROW_FILE = 5,     /* the file is not 1-10 */
     WINDROW_LOCKED = 6,   /* define while not unlocked */
     WINDROW_GROUP = 7,    /* a bad group: not (0, 0), and not at least one point, all in one row of the live table; carried is the
@@ -27,7 +27,7 @@ enum windrow_card {
     WINDROW_ALARM = 12,   /* the slot is not 1-32, or an entry of it is bad */
     WINDROW_REPLY = 13,   /* the reply buffer is under 256 bytes */
     WINDROW_GARBLED = 14, /* no 03 reply of unit 1-247 with a right CRC and a record of this size (as byte count, the frame 5
-                             bytes longer); or a stamp out of range and the record not all zeros */
+                             bytes longer); or a record not all zeros whose stamp is no date or no time: windrow_stamp.h */
     WINDROW_EMPTY = 15,   /* the record is all zeros: nothing has been captured there */
     WINDROW_BEYOND = 16   /* the place or the point asked for names nothing */
 };

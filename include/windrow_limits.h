@@ -63,9 +63,10 @@
  * every start that lays out, and then a poll of 700+f or 750+f is an exception; a poll of 720+f or 770+f needs none.
  *
  * Oldest first: with pointer p over 0, read p + 1 to n and then 1 to p, and pass over records that are WINDROW_EMPTY (15); one
- * that was captured never is, since its month is not 0. Read the pointer again at the end. Where it has gone on by c, the c
- * numbers from p + 1 on may hold newer records than they did: drop those rows, and read p + 1 to the new pointer as the newest.
- * A pointer of 0 or another n then means that the file was emptied meanwhile; one that goes round whole is not noticed.
+ * that was captured never is, since its month is not 0. Pass over those, too, that are refused for their stamp alone, as
+ * windrow_reader.h says. Read the pointer again at the end. Where it has gone on by c, the c numbers from p + 1 on may hold
+ * newer records than they did: drop those rows, and read p + 1 to the new pointer as the newest. A pointer of 0 or another n
+ * then means that the file was emptied meanwhile; one that goes round whole is not noticed.
  */
 #define WINDROW_FIRST_REGISTER 3701
 #define WINDROW_LAST_REGISTER 3733

@@ -8,9 +8,9 @@
 #include <stdint.h>
 
 /*
- * Month 1-12 (tm_mon + 1), day 1-31 in every month, year 0-99 (of 2000 to 2099: tm_year - 100), hour 0-23, minute and second
- * 0-59: a leap second's tm_sec of 60 is refused with WINDROW_CLOCK (4), so hand in 59. The fields stand in this order whatever
- * the date order of the site.
+ * Month 1-12 (tm_mon + 1), a day that exists in its month, year 0-99 (of 2000 to 2099: tm_year - 100), hour 0-23, minute and
+ * second 0-59. February has 29 days when the year divides by four. A leap second's tm_sec of 60 is refused with WINDROW_CLOCK
+ * (4), so hand in 59. The fields stand in this order whatever the date order of the site.
  */
 struct windrow_stamp {
     uint8_t month;

@@ -8,13 +8,13 @@
 #define WINDROW_VERSION_H
 
 /*
- * A new major number: programs may have to be changed. A new minor number: there is more to use. A new patch: only the inside
- * differs. With each, compile and link again.
+ * A new major number: programs may have to be changed. A new minor number: there is more to use, or a call answers some input
+ * otherwise than before, as CHANGELOG.md says. A new patch: only the inside differs. With each, compile and link again.
  */
 #define WINDROW_VERSION_MAJOR 1
-#define WINDROW_VERSION_MINOR 0
+#define WINDROW_VERSION_MINOR 1
 #define WINDROW_VERSION_PATCH 0
-#define WINDROW_VERSION "1.0.0"
+#define WINDROW_VERSION "1.1.0"
 
 /* The format of struct windrow_state as bytes. Store it beside a state, and hand no state of another format to these libraries. */
 #define WINDROW_STATE_FORMAT 1

@@ -9,10 +9,10 @@ SETTINGS = ("unit 17\ngap 1\nfile 1 4 5101:1 7101:1 4001:1 1801:2\ntrigger 1 180
 
 class Compare(RecordsCase):
     def setUp(self):
-        """Ten rises, and before a last scan without a change one in which all is off, whose month is refused."""
+        """Ten rises, and before a last scan without a change two in which all is off, of dates that are refused."""
         super().setUp()
         trace = pulses(10, lambda i, table: table.float(7101, i / 4).text8(4001, b"pile %d" % i))
-        refused = record(Table(), 0, month=13)
+        refused = record(Table(), 0, month=13) + record(Table(), 0, month=2, day=30)
         self.gateway_over(trace + refused + record(Table().flag(1801), 0, hour=11), SETTINGS)
         self.expect(FINE, "", "read", "line", "s", "11=alarms.csv")
         self.records = self.expect(FINE, "", "read", "line", "s", "1").stdout.splitlines(True)

@@ -71,11 +71,14 @@ class Whole(DumpCase):
                       "  drafted: n 7, groups 3001:2\n", out)
 
     def test_record_with_an_impossible_stamp_is_told_and_the_others_written(self):
+        """30 February, which a gateway before 1.1 filed, and a month that never was."""
         store = self.stored()
-        store.archive[0] = 13  # the month of file 1's record 1
-        self.write("store", store.bytes())
-        done = self.expect(TROUBLE, ["file 1, record 1: 14 Garbled", "its stamp is out of range"], "dump", "store", "--file", "1")
-        self.assertEqual([row[:2] for row in done.stdout.splitlines()[1:]], ["3,", "4,", "2,"])
+        for date, shown in (bytes([2, 30, 26]), "02 1E 1A 05 1E 00"), (bytes([13, 13, 26]), "0D 0D 1A 05 1E 00"):
+            store.archive[:3] = date  # of file 1's record 1
+            self.write("store", store.bytes())
+            done = self.expect(TROUBLE, ["file 1, record 1: 14 Garbled", "its stamp %s is no date and time" % shown], "dump",
+                               "store", "--file", "1")
+            self.assertEqual([row[:2] for row in done.stdout.splitlines()[1:]], ["3,", "4,", "2,"])
 
 
 class Refused(DumpCase):

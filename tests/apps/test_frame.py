@@ -4,6 +4,7 @@ from support import FINE, MISUSE, TROUBLE, Case
 
 EXCEPTIONS = (1, "illegal function"), (2, "illegal data address"), (3, "illegal data value"), (4, "unknown exception")
 GARBLED = "as a record of file 1: 14 Garbled: "
+NO_DATE = "is no date and time: damaged, or filed before version 1.1?"
 SETTINGS = "unit 17\nfile 1 4 5101:1 4001:1\n"
 
 
@@ -196,12 +197,25 @@ class Records(FrameCase):
         self.record(FINE, reply(17, self.RECORD[:6]), "as a stamp of file 11, 6 bytes:", "2007-08-29T11:36:52", file="11")
         self.record(FINE, reply(17, bytes(6)), "as a stamp of file 1: 15 Empty: nothing has been captured there")
         self.record(TROUBLE, reply(17, bytes([13]) + self.RECORD[1:6]),
-                    "as a stamp of file 1: 14 Garbled: its stamp is out of range: damaged, or dates in the other order?")
+                    "as a stamp of file 1: 14 Garbled: its stamp 0D 1D 07 0B 24 34 " + NO_DATE)
         self.record(FINE, reply(17, self.RECORD[:6]), "as a record of file 2, 6 bytes:", "stamp", "2007-08-29T11:36:52", file="2")
 
     def test_impossible_stamp(self):
-        self.record(TROUBLE, reply(17, b"\x0d" + self.RECORD[1:]),
-                    GARBLED + "its stamp is out of range: damaged, or dates in the other order?")
+        for stamp in "0D 1D 07 0B 24 34", "02 1E 07 0B 24 34", "02 1D 07 0B 24 34", "04 1F 07 0B 24 34", "08 1D 07 18 24 34":
+            self.record(TROUBLE, reply(17, bytes.fromhex(stamp) + self.RECORD[6:]),
+                        GARBLED + "its stamp %s " % stamp + NO_DATE)
+
+    def test_stamp_in_the_other_order(self):
+        other = "is a date in the other order only: the wrong date order, or damaged?"
+        self.record(TROUBLE, reply(17, bytes([29, 8]) + self.RECORD[2:]), GARBLED + "its stamp 1D 08 07 0B 24 34 " + other)
+        self.write("s", SETTINGS + "dates day-first\n")
+        self.record(TROUBLE, reply(17, self.RECORD), GARBLED + "its stamp 08 1D 07 0B 24 34 " + other)
+        self.record(TROUBLE, reply(17, bytes([30, 2]) + self.RECORD[2:]), GARBLED + "its stamp 1E 02 07 0B 24 34 " + NO_DATE)
+
+    def test_29_february(self):
+        """Of 2008, and of 2000, whose year is 0."""
+        for year in 8, 0:
+            self.record(FINE, reply(17, bytes([2, 29, year]) + self.RECORD[3:]), '20%02d-02-29T11:36:52,-5,"a""b,\\x80"' % year)
 
     def test_unit_of_no_gateway(self):
         self.record(TROUBLE, reply(250, self.RECORD), GARBLED + "its unit 250 is not 1-247")

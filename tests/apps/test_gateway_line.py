@@ -242,11 +242,12 @@ class Trace(GatewayCase):
     def test_impossible_dates_are_passed_over_and_told(self):
         """A scan of such a date neither captures nor makes a change that is due later."""
         self.write("s", SETTINGS + "at 2090-01-01T00:00:00 trigger 1 0\n")
-        for month, day, year in (13, 1, 26), (0, 1, 26), (5, 32, 26), (5, 1, 100), (5, 1, 255):
+        for month, day, year in (13, 1, 26), (0, 1, 26), (5, 32, 26), (2, 30, 26), (2, 29, 26), (11, 31, 26), (5, 1, 100), (5, 1, 255):
             trace = bytearray(pulses(3))
             trace[3 * 1430:3 * 1430 + 3] = month, day, year  # the second rise
             self.write("t", trace)
-            self.expect(FINE, "scan 4 is refused for its date, and passed over", "gateway", "s", "--trace", "t",
+            date = "%d-%02d-%02dT02:30:00" % (2000 + year, month, day)
+            self.expect(FINE, "scan 4 is refused, and passed over: %s is no date and time" % date, "gateway", "s", "--trace", "t",
                         "--store", "store", "--speed", "1e7")
             store = stores.Store.of(self.read("store"))
             self.assertEqual((store.get16(stores.POINTERS), store.get16(stores.TRIGGERS), store.scans), (2, 1801, 6))

@@ -138,9 +138,13 @@ class Answers(ReadCase):
         self.fails(lambda *a: good(*a) if a[2] == 3701 else reply(17, bytes(12)),
                    ["file 1, record 3: 14 Garbled", "it has 12 bytes, and a record of this definition has 10"])
 
-    def test_record_with_an_impossible_stamp(self):
-        bad = {**RECORDS, (1, 2): b"\x0d" + RECORDS[1, 2][1:]}
-        self.fails(answers(FILES, bad), ["file 1, record 2: 14 Garbled", "its stamp is out of range"])
+    def test_record_with_an_impossible_stamp_is_told_and_the_others_written(self):
+        """30 February, which a gateway before 1.1 filed; a common year's 29th; a month that never was."""
+        for date in bytes([2, 30, 26]), bytes([2, 29, 26]), bytes([9, 31, 26]), bytes([13, 13, 26]):
+            gateway = self.play(answers(FILES, {**RECORDS, (1, 1): date + RECORDS[1, 1][3:]}))
+            told = ["file 1, record 1: 14 Garbled", "its stamp %s " % date.hex(" ").upper(), "is no date and time"]
+            done = self.expect(TROUBLE, told, "read", gateway.device, "s", "1")
+            self.assertEqual(done.stdout, CSV.replace("1,2026-05-01T06:01:00,-1\n", ""))
 
     def test_emptied_while_it_is_read(self):
         """What was read then is not written as if it were the file's."""
@@ -153,6 +157,19 @@ class Answers(ReadCase):
         gateway = self.play(lambda *a: answers({1: (4, 3 if a[4] > 4 else 2, 0)}, full)(*a))
         done = self.expect(FINE, "", "read", gateway.device, "s", "1")
         self.assertEqual([row.split(",")[0] for row in done.stdout.splitlines()[1:]], ["4", "1", "2"])
+
+    def test_captured_over_while_it_was_undated(self):
+        """Record 3 is left out for what stands there now, and not for its date."""
+        full = {(1, k): record(k, k) for k in (1, 2, 3, 4)}
+        full[1, 3] = bytes([2, 30, 26]) + full[1, 3][3:]
+        gateway = self.play(lambda *a: answers({1: (4, 3 if a[4] > 4 else 2, 0)}, full)(*a))
+        done = self.expect(FINE, "", "read", gateway.device, "s", "1")
+        self.assertEqual([row.split(",")[0] for row in done.stdout.splitlines()[1:]], ["4", "1", "2"])
+
+    def test_date_in_the_other_order(self):
+        """Settings of another gateway, perhaps: nothing is written."""
+        bad = {**RECORDS, (1, 2): bytes([29, 5]) + RECORDS[1, 2][2:]}
+        self.fails(answers(FILES, bad), ["file 1, record 2: 14 Garbled: its stamp 1D 05 1A 06 02 00", "in the other order only"])
 
 
 class Unplugged(ReadCase):
@@ -197,6 +214,15 @@ class Follow(GatewayCase, ReadCase):
         before = len(gateway.requests)
         self.wait_for("looks in vain", lambda: len(gateway.requests) > before + 7)
         return gateway, reader
+
+    def test_undated_record_after_a_silence_is_told(self):
+        gateway, reader = self.silenced()
+        records = {**RECORDS, (1, 3): bytes([2, 30, 26]) + record(3, 3)[3:], (1, 4): record(4, 4)}
+        gateway.answer = answers({1: (4, 4, 0)}, records)
+        self.wait_for("the next record", lambda: b"4,2026-05-01T06:04:00,4\n" in self.read("csv"))
+        status, _, told = self.stopped(reader)
+        self.assertEqual((status, self.read("csv").decode()), (TROUBLE, CSV + "4,2026-05-01T06:04:00,4\n"))
+        self.assertEqual(told.count("file 1, record 3: 14 Garbled: its stamp 02 1E 1A 06 03 00 is no date and time"), 1, told)
 
     def test_silence_is_told_once_and_outlived(self):
         gateway, reader = self.silenced()

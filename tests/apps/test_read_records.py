@@ -4,6 +4,7 @@ import io
 import math
 import struct
 
+import stores
 from gateways import GatewayCase
 from support import DEADLINE, FINE, TROUBLE
 from traces import Table, pulses, record
@@ -137,8 +138,9 @@ class Files(RecordsCase):
         late = record(Table().flag(1801), 0, day=13)
         self.gateway_over(trace + record(Table(), 0) + late, self.SETTINGS)
         self.write("other", self.SETTINGS + "dates day-first\n")
-        self.expect(TROUBLE, ["14 Garbled", "its stamp is out of range: damaged, or dates in the other order?"], "read", "line",
-                    "other", "1")
+        done = self.expect(TROUBLE, ["14 Garbled", "is a date in the other order only: the wrong date order, or damaged?"], "read",
+                           "line", "other", "1")
+        self.assertEqual(done.stdout, "")
 
 
 class Alarms(RecordsCase):
@@ -224,3 +226,32 @@ class Follow(RecordsCase):
         self.stopped(gateway)
         self.assertEqual(reader.wait(DEADLINE), TROUBLE)
         self.assertIn("is gone", reader.stderr.read())
+
+
+class OldRecords(RecordsCase):
+    """A store with a record of 30 February, as gateways before 1.1 filed it: the gateway sends it, and it is told and left out."""
+    ROWS = "record,stamp,5101\n1,2026-05-01T01:30:00,1\n3,2026-05-01T03:30:00,3\n4,2026-05-01T04:30:00,4\n"
+    TOLD = "file 1, record 2: 14 Garbled: its stamp 02 1E 1A 02 1E 00 is no date and time"
+
+    def setUp(self):
+        super().setUp()
+        self.write("s", "unit 17\narchive 12000\ngap 1\nfile 1 4 5101:1\ntrigger 1 1801\n")
+        self.write("trace", pulses(4))
+        words = "gateway s --trace trace --store store --speed 1e7".split()
+        self.expect(FINE, "", *words, "--scans", "6")
+        store = stores.Store.of(self.read("store"))
+        store.archive[10:13] = 2, 30, 26  # the date of record 2
+        self.write("store", store.bytes())
+        gateway = self.start_gateway(*words[1:], "--hold")
+        self.assertIn("scanned", gateway.stdout.readline())
+
+    def test_read(self):
+        self.assertEqual(self.expect(TROUBLE, self.TOLD, "read", "line", "s", "1").stdout, self.ROWS)
+        self.assertEqual(stores.Store.of(self.read("store")).archive[10:13], bytes([2, 30, 26]))
+
+    def test_follow(self):
+        reader = self.start("line", "s", "1=csv", "--follow", "--every", "10", name="read")
+        self.wait_for("its first look", lambda: "csv" in self.names())
+        status, _, told = self.stopped(reader)
+        self.assertEqual((status, self.read("csv").decode()), (TROUBLE, self.ROWS))
+        self.assertIn(self.TOLD, told)
