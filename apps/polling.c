@@ -159,8 +159,8 @@ static bool is_dated_otherwise(struct file file, bool day_first, const uint8_t *
     return other.card == WINDROW_DONE;
 }
 
-/* The reply is right but for the record's stamp. */
-static void tell_stamp(struct row *row, struct file file, bool day_first, const uint8_t *frame, size_t length)
+/* The reply is right but for the stamp of its record. */
+static void explain_stamp(struct row *row, struct file file, bool day_first, const uint8_t *frame, size_t length)
 {
     const uint8_t *stamp = &frame[WINDROW_RECORD_AT];
     row->undated = !is_dated_otherwise(file, day_first, frame, length);
@@ -170,8 +170,8 @@ static void tell_stamp(struct row *row, struct file file, bool day_first, const 
                           : "is a date in the other order only: the wrong date order, or damaged?");
 }
 
-/* Why a record was not taken. */
-static void tell_refusal(struct row *row, struct file file, bool day_first, const uint8_t *frame, size_t length)
+/* Puts into words why a record was not taken. */
+static void explain_refusal(struct row *row, struct file file, bool day_first, const uint8_t *frame, size_t length)
 {
     char card[CARD_TEXT];
     size_t wanted = file.number == WINDROW_ALARM_FILE ? WINDROW_ALARM_BYTES : windrow_record_bytes(file.groups);
@@ -185,7 +185,7 @@ static void tell_refusal(struct row *row, struct file file, bool day_first, cons
     else if (frame[0] < WINDROW_LEAST_UNIT || frame[0] > WINDROW_MOST_UNIT)
         snprintf(row->text, sizeof row->text, "14 Garbled: its unit %u is not 1-247", frame[0]);
     else
-        tell_stamp(row, file, day_first, frame, length);
+        explain_stamp(row, file, day_first, frame, length);
 }
 
 void take_reply(struct row *row, struct file file, bool day_first, const uint8_t *frame, size_t length)
@@ -194,7 +194,7 @@ void take_reply(struct row *row, struct file file, bool day_first, const uint8_t
     row->undated = false;
     take_record(row, file, day_first, frame, length);
     if (row->card != WINDROW_DONE)
-        tell_refusal(row, file, day_first, frame, length);
+        explain_refusal(row, file, day_first, frame, length);
 }
 
 bool poll_record(struct source *source, struct file file, uint16_t number, struct row *row)

@@ -48,7 +48,7 @@ struct reader {
     bool follow;
     bool following; /* its first look is over: a signal then ends it after one look more, and before at once */
     int every_ms;
-    bool left_out; /* a record that is undated was */
+    bool left_out; /* some record was, since it is undated */
     struct source source;
     struct reading readings[ALL_FILES];
     int count;
