@@ -12,9 +12,9 @@
  * and the reply to a 06 is the request's own 8 bytes.
  *
  * 14 is for the stamp alone where the reply has its CRC (windrow_has_crc), the unit asked, function 3, the record's size
- * (windrow_record_bytes) as byte count, and 5 bytes more in all. If the other date order reads it, the date order given is wrong.
- * If not, leave the record out and go on with the next: gateways before 1.1 filed days that their months lack, 30 February say,
- * and a gateway sends what it holds.
+ * (windrow_record_bytes; WINDROW_ALARM_BYTES of the alarm file) as byte count, and 5 bytes more in all. If the other date order
+ * reads it, the date order given may be the wrong one. If not, leave the record out and go on with the next: it is damaged, or
+ * of a gateway before 1.1, which filed days that their months lack, 30 February say; a gateway sends what it holds.
  *
  * A reply tells neither its file, its record's number, its groups nor its date order. Compare frame[0] with the unit that was
  * asked, and throw away what has come in before each request, a late reply after a time-out too. Other groups of the same size,
