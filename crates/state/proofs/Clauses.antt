@@ -6,7 +6,7 @@
 --     files-good                 what valid files give
 --     within-split, within-join  numbers within their limits, one by one
 --     all-same                   two lists of one length whose numbers are all the same
-use mathlib.Core.Path.{_≡_, refl}
+use mathlib.Core.Path.{_≡_, refl, ap, _∙_}
 use mathlib.Core.List.{List}
 use mathlib.Core.Bool.{Bool, true, false, cond, not, _&&_}
 use Prim.Native.Nat.{ℕ, _≤_, _<_}
@@ -105,9 +105,11 @@ module _ (s : State) where
   files-fail bad = simp (bad, never)
 
   -- where the files are valid, the other parts decide
-  pub rest-valid : files ≡ true → flagsValid (s .flags) && (settingsValid (s .settings) && within 1 247 (s .site .unit)) ≡ valid s
+  pub rest-valid : files ≡ true → (settled r : Bool) → settled ≡ settingsValid (s .settings) →
+      r ≡ flagsValid (s .flags) && (settled && within 1 247 (s .site .unit)) → r ≡ valid s
   unfolding valid
-  rest-valid laid = simp laid
+  rest-valid laid settled r settles told =
+      told ∙ ap (λ x. flagsValid (s .flags) && (x && within 1 247 (s .site .unit))) settles ∙ simp laid
 
 pub files-good : (l : Layout) (size : ℕ) (pointers requested : List ℕ) → filesValid l size pointers requested ≡ true → goodFiles (l .groups) ≡ true
 unfolding filesValid

@@ -1,19 +1,15 @@
 // What makes a state Foreign, document 01, row 2 of the service card.
 ghost use mathlib.Core.Path.{_≡_};
-ghost use mathlib.Core.Bool.{true};
+ghost use mathlib.Core.Bool.{true, _&&_};
 ghost use mathlib.Core.List.{List};
 ghost use Prim.Native.Nat.{ℕ};
 ghost use lib.Dec.{eqb};
 ghost use lib.ListN.{length, getD};
-ghost use Rattle.archive.specs.Layout.{every, isGood, goodFiles, layoutFrom, layoutOf};
+ghost use Rattle.archive.specs.Layout.{every, isGood, goodFiles, layoutFrom};
 ghost use Rattle.archive.specs.Alarms.{goodSlot, goodSlots};
-ghost use Rattle.state.specs.Validity.{goodTriggers, settingsValid, withinLimits};
+ghost use Rattle.state.specs.Validity.{goodTriggers, withinLimits};
 ghost use Rattle.state.specs.Lent.{JudgedFiles};
-use crate::parts::Files;
-use crate::parts::Line;
-use crate::parts::Settings;
 use archive::alarms::Slot;
-use archive::layout::Definitions;
 use archive::layout::Measured;
 use archive::layout::good_size;
 use archive::layout::layout_size;
@@ -98,21 +94,22 @@ fn are_drafts_good(drafts: &[u16], laid: &[u16]) -> bool
 }
 
 // Whether drafts, triggers and slots, which calls set one by one, keep their rules, where the laid-out definitions do.
-pub fn are_settings_valid(settings: Settings, layout: Definitions) -> bool
-    requires { ⌜ goodFiles (layout .groups) ≡ true ⌝ }
-    ensures { λ r. ⌜ r ≡ settingsValid settings ⌝ }
+pub fn are_settings_valid<'a>(
+    drafts: &'a [u16],
+    laid: &'a [u16],
+    triggers: &'a [u16],
+    slots: [Slot; 32],
+) -> bool
+    requires { ⌜ (length (now drafts) ≡ 320) × (length (now laid) ≡ 320) × (length (now triggers) ≡ 10) ⌝ }
+    requires { ⌜ goodFiles (now laid) ≡ true ⌝ }
+    ensures { λ r. ⌜ r ≡ goodFiles (now (drafts .entry)) && (goodTriggers (now (triggers .entry)) && goodSlots slots) ⌝ }
 {
-    let draft = settings.draft;
-    let groups = draft.groups;
-    let laid = layout.groups;
-    if !are_drafts_good(&groups, &laid) {
+    if !are_drafts_good(drafts, laid) {
         return false;
     }
-    let triggers = settings.triggers;
-    if !are_triggers_good(&triggers) {
+    if !are_triggers_good(triggers) {
         return false;
     }
-    let slots = settings.slots;
     are_slots_good(slots)
 }
 
@@ -132,13 +129,13 @@ fn are_within(numbers: &[u16], limits: &[u16], depth: u16) -> bool
 }
 
 // Judges and measures laid-out definitions, and judges whether the layout fits the archive and no number is over its n.
-fn judge_numbers(
-    groups: &[u16],
-    limits: &[u16],
+pub fn judge_files<'a>(
+    groups: &'a [u16],
+    limits: &'a [u16],
     depth: u16,
     size: usize,
-    pointers: &[u16],
-    requested: &[u16],
+    pointers: &'a [u16],
+    requested: &'a [u16],
 ) -> Measured
     requires { ⌜ (length (now groups) ≡ 320) × (length (now limits) ≡ 10) × (length (now pointers) ≡ 11) × (length (now requested) ≡ 11) ⌝ }
     ensures { λ r. ⌜ JudgedFiles (layoutFrom (now (groups .entry)) (now (limits .entry)) depth) size (now (pointers .entry)) (now (requested .entry)) r ⌝ }
@@ -158,16 +155,4 @@ fn judge_numbers(
         good: are_within(requested, limits, depth),
         sizes,
     }
-}
-
-// The same of a state's parts.
-pub fn judge_files(files: Files, line: Line, depth: u16, size: usize) -> Measured
-    ensures { λ r. ⌜ JudgedFiles (layoutOf (files .layout) depth) size (files .pointers) (line .requested) r ⌝ }
-{
-    let layout = files.layout;
-    let groups = layout.groups;
-    let limits = layout.limits;
-    let pointers = files.pointers;
-    let requested = line.requested;
-    judge_numbers(&groups, &limits, depth, size, &pointers, &requested)
 }

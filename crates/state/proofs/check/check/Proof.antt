@@ -3,7 +3,7 @@ use mathlib.Core.Path.{sym, ap, _∙_}
 use native.Mathlib.Omega.{arith}
 use borrow.Author.Tests.{not-true, not-false}
 use Rattle.state.specs.State.{laidOut}
-use Rattle.state.specs.Validity.{filesValid}
+use Rattle.state.specs.Validity.{filesValid, settingsValid}
 use Rattle.state.proofs.Clauses.{state-other, state-foreign, state-takes, files-good, files-fail, rest-valid}
 use borrow.Author.Needs.{needs}
 use Rattle.state.proofs.check.check.Statement.{statement}
@@ -20,29 +20,39 @@ judge-files-requires c κs = search needs
 
 returns-2 : tie.Need-returns-2
 returns-2 c =
-    let s = c .before .before .before .before .before .before .before .before .before .args .s in
-    let same = c .before .before .before .before .before .before .if1 .left in
-    let bad = files-fail s (ap (λ n. filesValid (laidOut s) n (s .files .pointers) (s .line .requested)) (sym same) ∙ sym (c .before .before .before .judge-files .ensures .judged) ∙ not-true _ (c .if2 .taken)) in
+    let same = c .before .before .before .before .before .before .before .before .before .before .before .before .before .if1 .left in
+    let s = c .before .before .before .before .before .before .before .before .before .before .before .before .before .before .args .t1 in
+    let judged = c .before .before .before .judge-files .ensures in
+    let bad = files-fail s (ap (λ n. filesValid (laidOut s) n (s .files .pointers) (s .line .requested)) (sym same) ∙ sym (judged .judged) ∙ not-true _ (c .if2 .taken)) in
     record { number = state-foreign _ _ same bad; sized = λ no. absurd (omega (arith, no)) }
 
+are-settings-valid-requires : tie.Need-are-settings-valid-requires
+are-settings-valid-requires c κs =
+    (search needs, files-good _ _ _ _ (sym (c .before .before .before .before .before .before .before .before .before .before .before .judge-files .ensures .judged) ∙ not-false _ (c .before .before .before .before .before .before .before .before .if2 .left)))
+
 is-rest-valid-requires : tie.Need-is-rest-valid-requires
-is-rest-valid-requires c κs = files-good _ _ _ _ (sym (c .before .before .before .before .before .before .judge-files .ensures .judged) ∙ not-false _ (c .before .before .before .if2 .left))
+is-rest-valid-requires c κs = search needs
 
 returns-3 : tie.Need-returns-3
+unfolding settingsValid
 returns-3 c =
-    let s = c .before .before .before .before .before .before .before .before .before .before .before .before .before .before .args .s in
-    let same = c .before .before .before .before .before .before .before .before .before .before .before .if1 .left in
-    let files = ap (λ n. filesValid (laidOut s) n (s .files .pointers) (s .line .requested)) (sym same) ∙ sym (c .before .before .before .before .before .before .before .before .judge-files .ensures .judged) ∙ not-false _ (c .before .before .before .before .before .if2 .left) in
-    let bad = sym (rest-valid s files) ∙ sym (c .before .is-rest-valid .ensures) ∙ not-true _ (c .if3 .taken) in
+    let same = c .before .before .before .before .before .before .before .before .before .before .before .before .before .before .before .before .before .before .before .before .before .before .before .before .before .if1 .left in
+    let s = c .before .before .before .before .before .before .before .before .before .before .before .before .before .before .before .before .before .before .before .before .before .before .before .before .before .before .args .t1 in
+    let judged = c .before .before .before .before .before .before .before .before .before .before .before .before .before .before .before .judge-files .ensures in
+    let files = ap (λ n. filesValid (laidOut s) n (s .files .pointers) (s .line .requested)) (sym same) ∙ sym (judged .judged) ∙ not-false _ (c .before .before .before .before .before .before .before .before .before .before .before .before .if2 .left) in
+    let bad = sym (rest-valid s files _ _ (c .before .before .before .are-settings-valid .ensures) (c .before .is-rest-valid .ensures)) ∙ not-true _ (c .if3 .taken) in
     record { number = state-foreign _ _ same bad; sized = λ no. absurd (omega (arith, no)) }
 
 returns-4 : tie.Need-returns-4
+unfolding settingsValid
 returns-4 c =
-    let s = c .before .before .before .before .before .before .before .before .before .before .before .before .before .before .args .s in
-    let same = c .before .before .before .before .before .before .before .before .before .before .before .if1 .left in
-    let files = ap (λ n. filesValid (laidOut s) n (s .files .pointers) (s .line .requested)) (sym same) ∙ sym (c .before .before .before .before .before .before .before .before .judge-files .ensures .judged) ∙ not-false _ (c .before .before .before .before .before .if2 .left) in
-    let good = sym (rest-valid s files) ∙ sym (c .before .is-rest-valid .ensures) ∙ not-false _ (c .if3 .left) in
-    record { number = sym (state-takes s _ same good); sized = λ _. c .before .before .before .before .before .before .before .before .judge-files .ensures .sized (not-false _ (c .before .before .before .before .before .if2 .left)) }
+    let same = c .before .before .before .before .before .before .before .before .before .before .before .before .before .before .before .before .before .before .before .before .before .before .before .before .before .if1 .left in
+    let s = c .before .before .before .before .before .before .before .before .before .before .before .before .before .before .before .before .before .before .before .before .before .before .before .before .before .before .args .t1 in
+    let judged = c .before .before .before .before .before .before .before .before .before .before .before .before .before .before .before .judge-files .ensures in
+    let laid = not-false _ (c .before .before .before .before .before .before .before .before .before .before .before .before .if2 .left) in
+    let files = ap (λ n. filesValid (laidOut s) n (s .files .pointers) (s .line .requested)) (sym same) ∙ sym (judged .judged) ∙ laid in
+    let good = sym (rest-valid s files _ _ (c .before .before .before .are-settings-valid .ensures) (c .before .is-rest-valid .ensures)) ∙ not-false _ (c .if3 .left) in
+    record { number = sym (state-takes s _ same good); sized = λ _. judged .sized laid }
 
 pub check-spec : {M : Type 1} → statement M
 check-spec =
@@ -52,6 +62,7 @@ check-spec =
     returns
     judge-files-requires
     returns-2
+    are-settings-valid-requires
     is-rest-valid-requires
     returns-3
     returns-4)

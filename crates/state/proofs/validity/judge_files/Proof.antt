@@ -1,12 +1,12 @@
--- `validity::judge_numbers` meets its contract: each part that fails makes the whole false. Assumes nothing.
+-- `validity::judge_files` meets its contract: each part that fails makes the whole false. Assumes nothing.
 use mathlib.Core.Path.{sym, _∙_}
 use mathlib.Core.Bool.{false≢true}
 use borrow.Author.Tests.{le-leb, lt-leb, not-true, not-false}
 use Rattle.archive.specs.Layout.{hasRoom}
 use Rattle.state.specs.Validity.{filesValid}
 use borrow.Author.Needs.{needs}
-use Rattle.state.proofs.validity.judge_numbers.Statement.{statement}
-use Rattle.state.proofs.validity.judge_numbers.Tie as tie
+use Rattle.state.proofs.validity.judge_files.Statement.{statement}
+use Rattle.state.proofs.validity.judge_files.Tie as tie
 
 measure-requires : tie.Need-measure-requires
 measure-requires c κs = search needs
@@ -62,8 +62,8 @@ returns-4 c =
       sized = λ _. measured .sized good;
     }
 
-pub judge-numbers-spec : {M : Type 1} → statement M
-judge-numbers-spec =
+pub judge-files-spec : {M : Type 1} → statement M
+judge-files-spec =
     tie.close
     (tie.spec
     measure-requires
