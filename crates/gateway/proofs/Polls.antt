@@ -15,10 +15,10 @@ use lib.Dec.{eqb, ltb}
 use lib.ListN.{length}
 use Rattle.basics.specs.Card.{doneNo, replyNo, firstOf}
 use Rattle.basics.proofs.Tests.{by-cond}
-use Rattle.archive.specs.Layout.{alarmDepth}
+use Rattle.archive.specs.Layout.{alarmDepth, definedFiles, allFiles}
 use Rattle.archive.specs.Lent.{SizesOf}
 use Rattle.polls.specs.Frames.{replyTo, Answers}
-use Rattle.polls.specs.Lent.{leastBuffer}
+use Rattle.polls.specs.Lent.{leastBuffer, LentPoll}
 use Rattle.polls.proofs.Laws.{requested-within}
 use Rattle.polls.proofs.Lengths.{reply-short}
 use Rattle.state.specs.declared.parts.State.{State}
@@ -27,7 +27,6 @@ use Rattle.state.specs.Validity.{stateNumber, valid}
 use Rattle.state.proofs.Clauses.{valid-split, valid-join, within-split, within-join, state-taken}
 use Rattle.gateway.specs.declared.poll.PollAnswer.{PollAnswer}
 use Rattle.gateway.specs.Poll.{pollView, pollNumber, pollTold, pollAnswer, pollBuffer, Polled}
-use Rattle.gateway.specs.Lent.{LentFrame}
 
 pub poll-number-is : (s : State) (size bufferSize n : ℕ) → n ≡ stateNumber s size →
     firstOf n (cond (ltb bufferSize leastBuffer) replyNo doneNo) ≡ pollNumber s size bufferSize
@@ -54,13 +53,27 @@ module _ (s : State) (m frame buffer : List ℕ) where
       let refused : eqb number 0 ≡ false = ne-eqb number 0 (λ none. some (is ∙ none)) in
       record { answer = rw (is, refused) refl; memory = refl; reply = rw refused refl }
 
+  abbrev groups : List ℕ
+  groups = s .files .layout .groups
+
+  abbrev limits : List ℕ
+  limits = s .files .layout .limits
+
   pub poll-lends : (sizes : List ℕ) → pollNumber s (length m) (length buffer) ≡ 0 → SizesOf (s .files .layout .groups) sizes →
-      LentFrame (s .files) sizes alarmDepth (s .line .requested) m buffer
-  poll-lends sizes taken sized =
+      length groups ≡ 320 → length limits ≡ definedFiles → length sizes ≡ definedFiles →
+      length (s .files .pointers) ≡ allFiles → length (s .line .requested) ≡ allFiles →
+      LentPoll groups limits sizes alarmDepth (s .files .pointers) (s .line .requested) m buffer
+  poll-lends sizes taken sized defines limited measured pointed numbered =
       let both = poll-taken s (length m) (length buffer) taken in
       let state = state-taken s (length m) (both .0) in
       let holds = valid-split s (state .1) in
-      record { laid = holds .laid; room = rw (state .0) (holds .room); sized = sized; buffered = both .1 }
+      record {
+        layout = record { defines = defines; limited = limited; measured = measured; good = holds .laid; sized = sized };
+        room = rw (state .0) (holds .room);
+        pointed = pointed;
+        numbered = numbered;
+        buffered = both .1;
+      }
 
   pub poll-done : (told : ℕ) (buffer′ requested′ : List ℕ) → pollNumber s (length m) (length buffer) ≡ 0 →
       Answers (pollView s m) frame buffer told buffer′ requested′ → Polled s m frame buffer (pollTold (withRequested s requested′) 0 told) m buffer′

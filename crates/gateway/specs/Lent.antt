@@ -10,8 +10,6 @@ use Rattle.archive.specs.declared.layout.Definitions.{Definitions}
 use Rattle.archive.specs.Layout.{layoutOf, goodFiles, hasRoom}
 use Rattle.archive.specs.Lent.{SizesOf}
 use Rattle.archive.specs.Alarms.{goodSlots}
-use Rattle.polls.specs.Lent.{leastBuffer}
-use Rattle.state.specs.declared.parts.Files.{Files}
 use Rattle.state.specs.Validity.{goodTriggers}
 
 -- what captures and alarms are lent
@@ -23,10 +21,3 @@ pub record LentArchive (layout : Definitions) (triggers : List ℕ) (slots : Lis
   pub slotted : goodSlots slots ≡ true
   pub whole : length table ≡ tableBytes
   pub deep : 1 ≤ depth
-
--- what a poll that is not refused is lent of the state, with a reply buffer
-pub record LentFrame (files : Files) (sizes : List ℕ) (depth : ℕ) (requested m buffer : List ℕ) : Type 0 where
-  pub laid : goodFiles (files .layout .groups) ≡ true
-  pub room : hasRoom (layoutOf (files .layout) depth) (length m) ≡ true
-  pub sized : SizesOf (files .layout .groups) sizes
-  pub buffered : leastBuffer ≤ length buffer

@@ -3,20 +3,13 @@ ghost use mathlib.Core.Path.{_≡_};
 ghost use mathlib.Core.Bool.{cond};
 ghost use lib.Dec.{ltb};
 ghost use Rattle.basics.specs.Card.{doneNo, replyNo, firstOf};
-ghost use Rattle.archive.specs.Layout.{layoutOf};
-ghost use Rattle.polls.specs.View.{archiveView};
-ghost use Rattle.polls.specs.Frames.{Answers};
 ghost use Rattle.polls.specs.Lent.{leastBuffer};
-ghost use Rattle.state.specs.State.{withRequested};
 ghost use Rattle.gateway.specs.Poll.{Polled};
-ghost use Rattle.gateway.specs.Lent.{LentFrame};
 use archive::layout::ALARM_DEPTH;
 use basics::card::DONE;
 use basics::card::REPLY;
-use polls::poll::Answered;
 use polls::poll::answer;
 use state::check::check;
-use state::parts::Files;
 use state::parts::Line;
 use state::parts::State;
 
@@ -44,50 +37,6 @@ fn poll_number(number: u32, buffer_size: usize) -> u32
     DONE
 }
 
-// Other requested numbers.
-fn with_requested(s: State, requested: [u16; 11]) -> State
-    ensures { λ r. ⌜ r ≡ withRequested s requested ⌝ }
-{
-    let line = Line { requested };
-    let mut t = s;
-    t.line = line;
-    t
-}
-
-// Answers a frame by a state's files and requested numbers, whose records have these sizes.
-fn answer_frame(
-    reply: &mut [u8],
-    frame: &[u8],
-    archive: &[u8],
-    unit: u8,
-    files: Files,
-    requested: [u16; 11],
-    sizes: [usize; 10],
-    depth: u16,
-) -> Answered
-    requires { ⌜ LentFrame files sizes depth requested (now archive) (now reply) ⌝ }
-    ensures { λ r. ⌜ Answers
-        (archiveView unit (layoutOf (files .layout) depth) (files .pointers) requested (now (archive .entry)))
-        (now (frame .entry)) (now (reply .entry)) (r .length) (now (reply .exit)) (r .requested) ⌝ }
-{
-    let layout = files.layout;
-    let groups = layout.groups;
-    let limits = layout.limits;
-    let pointers = files.pointers;
-    answer(
-        reply,
-        unit,
-        frame,
-        archive,
-        &groups,
-        &limits,
-        &sizes,
-        depth,
-        &pointers,
-        requested,
-    )
-}
-
 // Poll: answers a frame of any length and content at the start of the reply buffer. Bytes past the reply are left as they were.
 #[no_mangle]
 pub extern "C" fn windrow_gateway_poll(
@@ -107,22 +56,25 @@ pub extern "C" fn windrow_gateway_poll(
             state: s,
         };
     }
-    let sizes = checked.sizes;
-    let files = s.files;
-    let line = s.line;
-    let requested = line.requested;
-    let answered = answer_frame(
+    // The answer's state is made before the reply is: past the reply's stores the compiler would copy it once more. What a poll looks
+    // at is lent out of it.
+    let mut state = s;
+    let requested = state.line.requested;
+    let answered = answer(
         reply,
+        state.site.unit,
         frame,
         archive,
-        s.site.unit,
-        files,
-        requested,
-        sizes,
+        &state.files.layout.groups,
+        &state.files.layout.limits,
+        &checked.sizes,
         ALARM_DEPTH,
+        &state.files.pointers,
+        requested,
     );
     let numbers = answered.requested;
-    let state = with_requested(s, numbers);
+    let line = Line { requested: numbers };
+    state.line = line;
     PollAnswer {
         number: DONE,
         length: answered.length as u32,

@@ -123,17 +123,18 @@ fn reply_to(
     }
 }
 
-// Answers a frame of any length and content: all checks come before the first byte of the reply.
-pub fn answer(
+// Answers a frame of any length and content: all checks come before the first byte of the reply. Parts of one state can be lent
+// together only for one lifetime.
+pub fn answer<'a>(
     buffer: &mut [u8],
     unit: u8,
     frame: &[u8],
     archive: &[u8],
-    groups: &[u16],
-    limits: &[u16],
+    groups: &'a [u16],
+    limits: &'a [u16],
     sizes: &[usize],
     depth: u16,
-    pointers: &[u16],
+    pointers: &'a [u16],
     requested: [u16; 11],
 ) -> Answered
     requires { ⌜ LentPoll (now groups) (now limits) (now sizes) depth (now pointers) requested (now archive) (now buffer) ⌝ }

@@ -1,9 +1,9 @@
 -- `poll::windrow_gateway_poll` meets its contract. Assumes nothing.
-use mathlib.Core.Path.{sym, ap, _∙_}
+use mathlib.Core.Path.{sym, _∙_}
 use native.Mathlib.Omega.{arith}
 use borrow.Author.Needs.{needs}
 use lib.ListN.{length}
-use Rattle.gateway.specs.Poll.{pollView, pollTold}
+use Rattle.gateway.specs.Poll.{pollView}
 use Rattle.gateway.proofs.Polls.{poll-number-is, poll-taken, poll-lends, poll-refuses, poll-done, poll-short}
 use Rattle.gateway.proofs.poll.windrow_gateway_poll.Statement.{statement}
 use Rattle.gateway.proofs.poll.windrow_gateway_poll.Tie as tie
@@ -19,23 +19,23 @@ returns c =
     let a = c .before .before .before .before .before .before .args in
     poll-refuses (a .s) (a .archive .now) (a .frame .now) (a .reply .now) _ (c .before .poll-number .ensures ∙ poll-number-is (a .s) (length (a .archive .now)) (length (a .reply .now)) _ (c .before .before .check .ensures .number)) (c .if1 .taken)
 
-answer-frame-requires : tie.Need-answer-frame-requires
-answer-frame-requires c κs =
-    let a = c .before .before .before .before .before .before .before .before .before .before .before .args in
-    let checked = c .before .before .before .before .before .before .before .check .ensures in
-    let taken = sym (c .before .before .before .before .before .before .poll-number .ensures ∙ poll-number-is (a .s) (length (a .archive .now)) (length (a .reply .now)) _ (c .before .before .before .before .before .before .before .check .ensures .number)) ∙ c .before .before .before .before .before .if1 .left in
-    poll-lends (a .s) (a .archive .now) (a .frame .now) (a .reply .now) _ taken (checked .sized (checked .number ∙ poll-taken _ _ _ taken .0))
+answer-requires : tie.Need-answer-requires
+answer-requires c κs =
+    let a = c .before .before .before .before .before .before .before .before .before .before .before .before .before .before .before .before .before .before .args in
+    let checked = c .before .before .before .before .before .before .before .before .before .before .before .before .before .before .check .ensures in
+    let taken = sym (c .before .before .before .before .before .before .before .before .before .before .before .before .before .poll-number .ensures ∙ poll-number-is (a .s) (length (a .archive .now)) (length (a .reply .now)) _ (c .before .before .before .before .before .before .before .before .before .before .before .before .before .before .check .ensures .number)) ∙ c .before .before .before .before .before .before .before .before .before .before .before .before .if1 .left in
+    -- what is known of the state's line: the search for needs stops before it
+    let line = c .before .before .before .before .before .before .before .before .before .before .before .before .before .before .before .before .before .before .good .0 .1 .1 .1 .1 .1 .1 .0 in
+    let sized = checked .sized (checked .number ∙ poll-taken _ _ _ taken .0) in
+    poll-lends (a .s) (a .archive .now) (a .frame .now) (a .reply .now) _ taken sized (search needs) (search needs) (search needs) (search needs) (search (needs, line))
 
-with-requested-requires : tie.Need-with-requested-requires
-with-requested-requires c κs = search needs
-
-cast-t18 : tie.Need-cast-t18
+cast-t14 : tie.Need-cast-t14
 unfolding pollView
-cast-t18 c =
-    let a = c .before .before .before .before .before .before .before .before .before .before .before .before .before .before .before .before .before .args in
-    let taken = sym (c .before .before .before .before .before .before .before .before .before .before .before .before .poll-number .ensures ∙ poll-number-is (a .s) (length (a .archive .now)) (length (a .reply .now)) _ (c .before .before .before .before .before .before .before .before .before .before .before .before .before .check .ensures .number)) ∙ c .before .before .before .before .before .before .before .before .before .before .before .if1 .left in
+cast-t14 c =
+    let a = c .before .before .before .before .before .before .before .before .before .before .before .before .before .before .before .before .before .before .before .before .before .before .before .args in
+    let taken = sym (c .before .before .before .before .before .before .before .before .before .before .before .before .before .before .before .before .before .before .poll-number .ensures ∙ poll-number-is (a .s) (length (a .archive .now)) (length (a .reply .now)) _ (c .before .before .before .before .before .before .before .before .before .before .before .before .before .before .before .before .before .before .before .check .ensures .number)) ∙ c .before .before .before .before .before .before .before .before .before .before .before .before .before .before .before .before .before .if1 .left in
     let short = poll-short (a .s) (a .archive .now) (a .frame .now) (a .reply .now) taken in
-    omega (arith, short, c .before .before .before .before .before .answer-frame .ensures .sent .size)
+    omega (arith, short, c .before .before .before .before .answer .ensures .sent .size)
 
 same-length : tie.Need-same-length
 same-length c = search needs
@@ -43,14 +43,9 @@ same-length c = search needs
 returns-2 : tie.Need-returns-2
 unfolding pollView
 returns-2 c =
-    let a = c .before .before .before .before .before .before .before .before .before .before .before .before .before .before .before .before .before .args in
-    let taken = sym (c .before .before .before .before .before .before .before .before .before .before .before .before .poll-number .ensures ∙ poll-number-is (a .s) (length (a .archive .now)) (length (a .reply .now)) _ (c .before .before .before .before .before .before .before .before .before .before .before .before .before .check .ensures .number)) ∙ c .before .before .before .before .before .before .before .before .before .before .before .if1 .left in
-    let done = poll-done (a .s) (a .archive .now) (a .frame .now) (a .reply .now) _ _ _ taken (c .before .before .before .before .before .answer-frame .ensures) in
-    record {
-      answer = ap (λ t. pollTold t 0 (c .before .before .before .before .before .answer-frame .result .length)) (c .before .with-requested .ensures) ∙ done .answer;
-      memory = done .memory;
-      reply = done .reply;
-    }
+    let a = c .before .before .before .before .before .before .before .before .before .before .before .before .before .before .before .before .before .before .before .before .before .before .before .args in
+    let taken = sym (c .before .before .before .before .before .before .before .before .before .before .before .before .before .before .before .before .before .before .poll-number .ensures ∙ poll-number-is (a .s) (length (a .archive .now)) (length (a .reply .now)) _ (c .before .before .before .before .before .before .before .before .before .before .before .before .before .before .before .before .before .before .before .check .ensures .number)) ∙ c .before .before .before .before .before .before .before .before .before .before .before .before .before .before .before .before .before .if1 .left in
+    poll-done (a .s) (a .archive .now) (a .frame .now) (a .reply .now) _ _ _ taken (c .before .before .before .before .answer .ensures)
 
 pub windrow-gateway-poll-spec : {M : Type 1} → statement M
 windrow-gateway-poll-spec =
@@ -59,8 +54,7 @@ windrow-gateway-poll-spec =
     check-requires
     poll-number-requires
     returns
-    answer-frame-requires
-    with-requested-requires
-    cast-t18
+    answer-requires
+    cast-t14
     same-length
     returns-2)
