@@ -2,7 +2,7 @@
 --     valid-split, valid-join    a valid state, and its clauses
 --     state-taken, state-takes   neither Memory (1) nor Foreign (2) applies
 --     state-other, state-foreign    one of them does
---     never, files-fail, rest-valid    the parts of validity that the code judges one by one
+--     files-fail, rest-valid    the parts of validity that the code judges one by one
 --     files-good                 what valid files give
 --     within-split, within-join  numbers within their limits, one by one
 --     all-same                   two lists of one length whose numbers are all the same
@@ -92,7 +92,7 @@ unfolding stateNumber
 state-foreign s size same bad = simp (eq-eqb _ _ same, bad)
 
 -- ---- a part that fails makes the whole fail
-pub never : (a : Bool) → (a && false) ≡ false
+never : (a : Bool) → (a && false) ≡ false
 never true = refl
 never false = refl
 
@@ -105,10 +105,10 @@ module _ (s : State) where
   files-fail bad = simp (bad, never)
 
   -- where the files are valid, the other parts decide
-  pub rest-valid : files ≡ true → (settled r : Bool) → settled ≡ settingsValid (s .settings) →
-      r ≡ flagsValid (s .flags) && (settled && within 1 247 (s .site .unit)) → r ≡ valid s
+  pub rest-valid : files ≡ true → (settings r : Bool) → settings ≡ settingsValid (s .settings) →
+      r ≡ flagsValid (s .flags) && (settings && within 1 247 (s .site .unit)) → r ≡ valid s
   unfolding valid
-  rest-valid laid settled r settles told =
+  rest-valid laid settings r settles told =
       told ∙ ap (λ x. flagsValid (s .flags) && (x && within 1 247 (s .site .unit))) settles ∙ simp laid
 
 pub files-good : (l : Layout) (size : ℕ) (pointers requested : List ℕ) → filesValid l size pointers requested ≡ true → goodFiles (l .groups) ≡ true

@@ -2,9 +2,7 @@
 ghost use mathlib.Core.Path.{_≡_};
 ghost use mathlib.Core.Bool.{not, _&&_};
 ghost use Rattle.modbus.specs.Frame.{goodUnit};
-ghost use Rattle.state.specs.Validity.{flagsValid};
 ghost use Rattle.state.specs.Lent.{Checks};
-use crate::parts::Flags;
 use crate::parts::State;
 use crate::validity::are_settings_valid;
 use crate::validity::judge_files;
@@ -20,6 +18,16 @@ pub struct StateCheck {
     pub sizes: [usize; 10],
 }
 
+// A state that is refused, of which no sizes are told.
+fn refused(number: u32) -> StateCheck
+    ensures { λ r. ⌜ r .number ≡ number ⌝ }
+{
+    StateCheck {
+        number,
+        sizes: [0; 10],
+    }
+}
+
 // Running and unlocked are not both on.
 fn are_flags_valid(running: bool, unlocked: bool) -> bool
     ensures { λ r. ⌜ r ≡ not (running && unlocked) ⌝ }
@@ -30,22 +38,19 @@ fn are_flags_valid(running: bool, unlocked: bool) -> bool
     true
 }
 
-// Whether the parts that have no sizes are valid, where it is known whether the settings are.
-fn is_rest_valid(flags: Flags, settled: bool, unit: u8) -> bool
-    ensures { λ r. ⌜ r ≡ flagsValid flags && («settled» && goodUnit unit) ⌝ }
+// Whether flags and unit are valid, and the settings, of which that is known.
+fn is_rest_valid(running: bool, unlocked: bool, settings_valid: bool, unit: u8) -> bool
+    ensures { λ r. ⌜ r ≡ not (running && unlocked) && («settings_valid» && goodUnit unit) ⌝ }
 {
-    are_flags_valid(flags.running, flags.unlocked) & (settled & is_within(1, 247, unit as u32))
+    are_flags_valid(running, unlocked) & (settings_valid & is_within(1, 247, unit as u32))
 }
 
-// Checks a state and the length of the archive that comes with it. The parts that are judged are lent, not copied.
+// Checks a state and the length of the archive that comes with it. What is judged is lent where it stands; only the slots go by value.
 pub fn check(s: State, size: usize) -> StateCheck
     ensures { λ r. ⌜ Checks s size r ⌝ }
 {
     if size != (s.site.archive_length as usize) {
-        return StateCheck {
-            number: MEMORY,
-            sizes: [0; 10],
-        };
+        return refused(MEMORY);
     }
     let judged = judge_files(
         &s.files.layout.groups,
@@ -55,27 +60,25 @@ pub fn check(s: State, size: usize) -> StateCheck
         &s.files.pointers,
         &s.line.requested,
     );
-    let sizes = judged.sizes;
     if !judged.good {
-        return StateCheck {
-            number: FOREIGN,
-            sizes,
-        };
+        return refused(FOREIGN);
     }
     let slots = s.settings.slots;
-    let settled = are_settings_valid(
+    let settings_valid = are_settings_valid(
         &s.settings.draft.groups,
         &s.files.layout.groups,
         &s.settings.triggers,
         slots,
     );
-    let flags = s.flags;
-    if !is_rest_valid(flags, settled, s.site.unit) {
-        return StateCheck {
-            number: FOREIGN,
-            sizes,
-        };
+    if !is_rest_valid(
+        s.flags.running,
+        s.flags.unlocked,
+        settings_valid,
+        s.site.unit,
+    ) {
+        return refused(FOREIGN);
     }
+    let sizes = judged.sizes;
     StateCheck {
         number: DONE,
         sizes,

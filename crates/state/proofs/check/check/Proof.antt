@@ -12,46 +12,59 @@ use Rattle.state.proofs.check.check.Tie as tie
 cast-if1 : tie.Need-cast-if1
 cast-if1 c = search needs
 
+refused-requires : tie.Need-refused-requires
+refused-requires c κs = search needs
+
 returns : tie.Need-returns
-returns c = record { number = state-other _ _ (c .if1 .taken); sized = λ no. absurd (omega (arith, no)) }
+returns c =
+    let told = c .refused .ensures in
+    record { number = told ∙ state-other _ _ (c .before .if1 .taken); sized = λ no. absurd (omega (arith, no, told)) }
 
 judge-files-requires : tie.Need-judge-files-requires
 judge-files-requires c κs = search needs
+
+refused-requires-2 : tie.Need-refused-requires-2
+refused-requires-2 c κs = search needs
 
 returns-2 : tie.Need-returns-2
 returns-2 c =
     let same = c .before .before .before .before .before .before .before .before .before .before .before .before .before .if1 .left in
     let s = c .before .before .before .before .before .before .before .before .before .before .before .before .before .before .args .t1 in
     let judged = c .before .before .before .judge-files .ensures in
-    let bad = files-fail s (ap (λ n. filesValid (laidOut s) n (s .files .pointers) (s .line .requested)) (sym same) ∙ sym (judged .judged) ∙ not-true _ (c .if2 .taken)) in
-    record { number = state-foreign _ _ same bad; sized = λ no. absurd (omega (arith, no)) }
+    let bad = files-fail s (ap (λ n. filesValid (laidOut s) n (s .files .pointers) (s .line .requested)) (sym same) ∙ sym (judged .judged) ∙ not-true _ (c .before .if2 .taken)) in
+    let told = c .refused2 .ensures in
+    record { number = told ∙ state-foreign _ _ same bad; sized = λ no. absurd (omega (arith, no, told)) }
 
 are-settings-valid-requires : tie.Need-are-settings-valid-requires
 are-settings-valid-requires c κs =
-    (search needs, files-good _ _ _ _ (sym (c .before .before .before .before .before .before .before .before .before .before .before .judge-files .ensures .judged) ∙ not-false _ (c .before .before .before .before .before .before .before .before .if2 .left)))
+    (search needs, files-good _ _ _ _ (sym (c .before .before .before .before .before .before .before .before .before .before .judge-files .ensures .judged) ∙ not-false _ (c .before .before .before .before .before .before .before .before .if2 .left)))
 
 is-rest-valid-requires : tie.Need-is-rest-valid-requires
 is-rest-valid-requires c κs = search needs
 
+refused-requires-3 : tie.Need-refused-requires-3
+refused-requires-3 c κs = search needs
+
 returns-3 : tie.Need-returns-3
 unfolding settingsValid
 returns-3 c =
-    let same = c .before .before .before .before .before .before .before .before .before .before .before .before .before .before .before .before .before .before .before .before .before .before .before .before .before .if1 .left in
-    let s = c .before .before .before .before .before .before .before .before .before .before .before .before .before .before .before .before .before .before .before .before .before .before .before .before .before .before .args .t1 in
-    let judged = c .before .before .before .before .before .before .before .before .before .before .before .before .before .before .before .judge-files .ensures in
+    let same = c .before .before .before .before .before .before .before .before .before .before .before .before .before .before .before .before .before .before .before .before .before .before .before .before .if1 .left in
+    let s = c .before .before .before .before .before .before .before .before .before .before .before .before .before .before .before .before .before .before .before .before .before .before .before .before .before .args .t1 in
+    let judged = c .before .before .before .before .before .before .before .before .before .before .before .before .before .before .judge-files .ensures in
     let files = ap (λ n. filesValid (laidOut s) n (s .files .pointers) (s .line .requested)) (sym same) ∙ sym (judged .judged) ∙ not-false _ (c .before .before .before .before .before .before .before .before .before .before .before .before .if2 .left) in
-    let bad = sym (rest-valid s files _ _ (c .before .before .before .are-settings-valid .ensures) (c .before .is-rest-valid .ensures)) ∙ not-true _ (c .if3 .taken) in
-    record { number = state-foreign _ _ same bad; sized = λ no. absurd (omega (arith, no)) }
+    let bad = sym (rest-valid s files _ _ (c .before .before .before .are-settings-valid .ensures) (c .before .before .is-rest-valid .ensures)) ∙ not-true _ (c .before .if3 .taken) in
+    let told = c .refused3 .ensures in
+    record { number = told ∙ state-foreign _ _ same bad; sized = λ no. absurd (omega (arith, no, told)) }
 
 returns-4 : tie.Need-returns-4
 unfolding settingsValid
 returns-4 c =
-    let same = c .before .before .before .before .before .before .before .before .before .before .before .before .before .before .before .before .before .before .before .before .before .before .before .before .before .if1 .left in
-    let s = c .before .before .before .before .before .before .before .before .before .before .before .before .before .before .before .before .before .before .before .before .before .before .before .before .before .before .args .t1 in
-    let judged = c .before .before .before .before .before .before .before .before .before .before .before .before .before .before .before .judge-files .ensures in
+    let same = c .before .before .before .before .before .before .before .before .before .before .before .before .before .before .before .before .before .before .before .before .before .before .before .before .if1 .left in
+    let s = c .before .before .before .before .before .before .before .before .before .before .before .before .before .before .before .before .before .before .before .before .before .before .before .before .before .args .t1 in
+    let judged = c .before .before .before .before .before .before .before .before .before .before .before .before .before .before .judge-files .ensures in
     let laid = not-false _ (c .before .before .before .before .before .before .before .before .before .before .before .before .if2 .left) in
     let files = ap (λ n. filesValid (laidOut s) n (s .files .pointers) (s .line .requested)) (sym same) ∙ sym (judged .judged) ∙ laid in
-    let good = sym (rest-valid s files _ _ (c .before .before .before .are-settings-valid .ensures) (c .before .is-rest-valid .ensures)) ∙ not-false _ (c .if3 .left) in
+    let good = sym (rest-valid s files _ _ (c .before .before .before .are-settings-valid .ensures) (c .before .before .is-rest-valid .ensures)) ∙ not-false _ (c .before .if3 .left) in
     record { number = sym (state-takes s _ same good); sized = λ _. judged .sized laid }
 
 pub check-spec : {M : Type 1} → statement M
@@ -59,10 +72,13 @@ check-spec =
     tie.close
     (tie.spec
     cast-if1
+    refused-requires
     returns
     judge-files-requires
+    refused-requires-2
     returns-2
     are-settings-valid-requires
     is-rest-valid-requires
+    refused-requires-3
     returns-3
     returns-4)

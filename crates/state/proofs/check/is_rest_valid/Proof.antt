@@ -12,7 +12,7 @@ is-within-requires : tie.Need-is-within-requires
 is-within-requires c κs = search needs
 
 returns : tie.Need-returns
-returns c = ap₂ _&&_ (c .before .are-flags-valid .ensures) (ap (λ x. c .before .before .args .settled && x) (c .is-within .ensures))
+returns c = ap₂ _&&_ (c .before .are-flags-valid .ensures) (ap (λ x. c .before .before .args .settings-valid && x) (c .is-within .ensures))
 
 pub is-rest-valid-spec : {M : Type 1} → statement M
 is-rest-valid-spec =
