@@ -15,7 +15,7 @@
 #include "windrow_reader.h"
 
 #define PROVED_STACK_BYTES 9216
-#define POLL_STACK_BYTES 7680 /* no room for one more copy of the state */
+#define POLL_STACK_BYTES 7296 /* no room for a record or for one more copy of the state */
 #define READER_STACK_BYTES 1023 /* windrow_reader.h: less than 1 KiB */
 #define PAINT 0xA5
 
