@@ -1,5 +1,5 @@
 -- Facts about Boolean tests and products that several crates' proofs share. Assumes nothing.
-use mathlib.Core.Path.{_≡_, refl}
+use mathlib.Core.Path.{_≡_, refl, sym}
 use mathlib.Core.Bool.{Bool, true, false, cond, _&&_, _||_, false≢true}
 use mathlib.Core.Logic.{_⊎_, inl, inr}
 use Prim.Native.Nat.{ℕ, _*_, _^_, _≤_, _<_}
@@ -22,10 +22,14 @@ pub and-right : (a b : Bool) → (a && b) ≡ true → b ≡ true
 and-right true b e = e
 and-right false b e = absurd (false≢true e)
 
--- the first half of a disjunction that does not hold
+-- the two halves of a disjunction that does not hold
 pub or-left : (a b : Bool) → (a || b) ≡ false → a ≡ false
 or-left true b e = e
 or-left false b e = refl
+
+pub or-right : (a b : Bool) → (a || b) ≡ false → b ≡ false
+or-right true b e = absurd (false≢true (sym e))
+or-right false b e = e
 
 -- what holds of both ways of a test holds of it
 pub by-cond : {A : Type 0} (Q : A → Type 0) (b : Bool) (x y : A) → (b ≡ true → Q x) → (b ≡ false → Q y) → Q (cond b x y)

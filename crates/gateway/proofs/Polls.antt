@@ -7,14 +7,15 @@
 --     poll-valid        it leaves a valid state valid
 use mathlib.Core.Path.{_≡_, refl, ap, _∙_}
 use mathlib.Core.List.{List}
-use mathlib.Core.Bool.{Bool, true, false, cond}
+use mathlib.Core.Bool.{Bool, true, false, cond, not}
 use Prim.Native.Nat.{ℕ, _≤_}
 use native.Mathlib.Omega.{arith}
 use borrow.Author.Tests.{eqb-true, eqb-false, ne-eqb, ltb-false}
 use lib.Dec.{eqb, ltb}
 use lib.ListN.{length}
-use Rattle.basics.specs.Card.{doneNo, replyNo, firstOf}
+use Rattle.basics.specs.Card.{tableNo, replyNo, firstOf}
 use Rattle.basics.proofs.Tests.{by-cond}
+use Rattle.points.specs.Table.{tableBytes}
 use Rattle.archive.specs.Layout.{alarmDepth, definedFiles, allFiles}
 use Rattle.archive.specs.Lent.{SizesOf}
 use Rattle.polls.specs.Frames.{replyTo, Answers}
@@ -26,28 +27,37 @@ use Rattle.state.specs.State.{laidOut, withRequested}
 use Rattle.state.specs.Validity.{stateNumber, valid}
 use Rattle.state.proofs.Clauses.{valid-split, valid-join, within-split, within-join, state-taken}
 use Rattle.gateway.specs.declared.poll.PollAnswer.{PollAnswer}
-use Rattle.gateway.specs.Poll.{pollView, pollNumber, pollTold, pollAnswer, pollBuffer, Polled}
+use Rattle.gateway.specs.Poll.{pollView, lentNumber, pollNumber, pollTold, pollAnswer, pollBuffer, Polled}
 
-pub poll-number-is : (s : State) (size bufferSize n : ℕ) → n ≡ stateNumber s size →
-    firstOf n (cond (ltb bufferSize leastBuffer) replyNo doneNo) ≡ pollNumber s size bufferSize
+pub poll-number-is : (s : State) (size tableSize bufferSize n : ℕ) → n ≡ stateNumber s size →
+    firstOf n (lentNumber tableSize bufferSize) ≡ pollNumber s size tableSize bufferSize
 unfolding pollNumber
-poll-number-is s size bufferSize n is = ap (λ k. firstOf k (cond (ltb bufferSize leastBuffer) replyNo doneNo)) is
+poll-number-is s size tableSize bufferSize n is = ap (λ k. firstOf k (lentNumber tableSize bufferSize)) is
 
-pub poll-taken : (s : State) (size bufferSize : ℕ) → pollNumber s size bufferSize ≡ 0 → (stateNumber s size ≡ 0) × (leastBuffer ≤ bufferSize)
+pub record Taken (s : State) (size tableSize bufferSize : ℕ) : Type 0 where
+  pub state : stateNumber s size ≡ 0
+  pub whole : tableSize ≡ tableBytes
+  pub buffered : leastBuffer ≤ bufferSize
+
+pub poll-taken : (s : State) (size tableSize bufferSize : ℕ) → pollNumber s size tableSize bufferSize ≡ 0 → Taken s size tableSize bufferSize
 unfolding pollNumber
-poll-taken s size bufferSize taken = go (eqb (stateNumber s size) 0) (ltb bufferSize leastBuffer) refl refl taken
+poll-taken s size tableSize bufferSize taken =
+    go (eqb (stateNumber s size) 0) (eqb tableSize tableBytes) (ltb bufferSize leastBuffer) refl refl refl taken
   where
-    go : (a b : Bool) → eqb (stateNumber s size) 0 ≡ a → ltb bufferSize leastBuffer ≡ b → cond a (cond b 13 0) (stateNumber s size) ≡ 0 →
-        (stateNumber s size ≡ 0) × (leastBuffer ≤ bufferSize)
-    go false b state short q = absurd (eqb-false (stateNumber s size) 0 state q)
-    go true true state short q = absurd (omega (arith, q))
-    go true false state short q = (eqb-true _ _ state, ltb-false _ _ short)
+    go : (a t b : Bool) → eqb (stateNumber s size) 0 ≡ a → eqb tableSize tableBytes ≡ t → ltb bufferSize leastBuffer ≡ b →
+        cond a (cond (not t) tableNo (cond b replyNo 0)) (stateNumber s size) ≡ 0 → Taken s size tableSize bufferSize
+    go false t b state whole short q = absurd (eqb-false (stateNumber s size) 0 state q)
+    go true false b state whole short q = absurd (omega (arith, q))
+    go true true true state whole short q = absurd (omega (arith, q))
+    go true true false state whole short q =
+        record { state = eqb-true _ _ state; whole = eqb-true _ _ whole; buffered = ltb-false _ _ short }
 
-module _ (s : State) (m frame buffer : List ℕ) where
+module _ (s : State) (m table frame buffer : List ℕ) where
   abbrev number : ℕ
-  number = pollNumber s (length m) (length buffer)
+  number = pollNumber s (length m) (length table) (length buffer)
 
-  pub poll-refuses : (n : ℕ) → n ≡ pollNumber s (length m) (length buffer) → (n ≡ 0 → ⊥) → Polled s m frame buffer (pollTold s n 0) m buffer
+  pub poll-refuses : (n : ℕ) → n ≡ pollNumber s (length m) (length table) (length buffer) → (n ≡ 0 → ⊥) →
+      Polled s m table frame buffer (pollTold s n 0) m buffer
   unfolding pollAnswer pollBuffer
   poll-refuses n is some =
       let refused : eqb number 0 ≡ false = ne-eqb number 0 (λ none. some (is ∙ none)) in
@@ -59,35 +69,37 @@ module _ (s : State) (m frame buffer : List ℕ) where
   abbrev limits : List ℕ
   limits = s .files .layout .limits
 
-  pub poll-lends : (sizes : List ℕ) → pollNumber s (length m) (length buffer) ≡ 0 → SizesOf (s .files .layout .groups) sizes →
+  pub poll-lends : (sizes : List ℕ) → pollNumber s (length m) (length table) (length buffer) ≡ 0 → SizesOf (s .files .layout .groups) sizes →
       length groups ≡ 320 → length limits ≡ definedFiles → length sizes ≡ definedFiles →
       length (s .files .pointers) ≡ allFiles → length (s .line .requested) ≡ allFiles →
-      LentPoll groups limits sizes alarmDepth (s .files .pointers) (s .line .requested) m buffer
+      LentPoll groups limits sizes alarmDepth (s .files .pointers) (s .line .requested) m table buffer
   poll-lends sizes taken sized defines limited measured pointed numbered =
-      let both = poll-taken s (length m) (length buffer) taken in
-      let state = state-taken s (length m) (both .0) in
+      let all = poll-taken s (length m) (length table) (length buffer) taken in
+      let state = state-taken s (length m) (all .state) in
       let holds = valid-split s (state .1) in
       record {
         layout = record { defines = defines; limited = limited; measured = measured; good = holds .laid; sized = sized };
         room = rw (state .0) (holds .room);
         pointed = pointed;
         numbered = numbered;
-        buffered = both .1;
+        whole = all .whole;
+        buffered = all .buffered;
       }
 
-  pub poll-done : (told : ℕ) (buffer′ requested′ : List ℕ) → pollNumber s (length m) (length buffer) ≡ 0 →
-      Answers (pollView s m) frame buffer told buffer′ requested′ → Polled s m frame buffer (pollTold (withRequested s requested′) 0 told) m buffer′
+  pub poll-done : (told : ℕ) (buffer′ requested′ : List ℕ) → pollNumber s (length m) (length table) (length buffer) ≡ 0 →
+      Answers (pollView s m table) frame buffer told buffer′ requested′ →
+      Polled s m table frame buffer (pollTold (withRequested s requested′) 0 told) m buffer′
   unfolding pollAnswer pollBuffer
   poll-done told buffer′ requested′ taken answers =
       record { answer = rw (taken, answers .asks, answers .sent .size) refl; memory = refl; reply = rw taken (answers .sent .left) }
 
-  pub poll-short : pollNumber s (length m) (length buffer) ≡ 0 → length (replyTo (pollView s m) frame) ≤ leastBuffer
+  pub poll-short : pollNumber s (length m) (length table) (length buffer) ≡ 0 → length (replyTo (pollView s m table) frame) ≤ leastBuffer
   unfolding pollView
   poll-short taken =
-      let state = state-taken s (length m) (poll-taken s (length m) (length buffer) taken .0) in
-      reply-short (s .site .unit) (laidOut s) (s .files .pointers) (s .line .requested) m (valid-split s (state .1) .laid) frame
+      let state = state-taken s (length m) (poll-taken s (length m) (length table) (length buffer) taken .state) in
+      reply-short (s .site .unit) (laidOut s) (s .files .pointers) (s .line .requested) m table (valid-split s (state .1) .laid) frame
 
-  pub poll-valid : valid s ≡ true → valid (pollAnswer s m frame (length buffer) .state) ≡ true
+  pub poll-valid : valid s ≡ true → valid (pollAnswer s m table frame (length buffer) .state) ≡ true
   unfolding pollAnswer pollView
   poll-valid sound =
       let k = valid-split s sound in
@@ -100,7 +112,7 @@ module _ (s : State) (m frame buffer : List ℕ) where
         laid = k .laid;
         room = k .room;
         pointers = k .pointers;
-        requested = within-join _ (laidOut s) (requested-within (pollView s m) frame (within-split (s .line .requested) (laidOut s) (k .requested)));
+        requested = within-join _ (laidOut s) (requested-within (pollView s m table) frame (within-split (s .line .requested) (laidOut s) (k .requested)));
         unit = k .unit;
       }))
       (λ _. sound)

@@ -1,13 +1,12 @@
-// The poll, document 01, "Frames": a frame answered in the reply buffer that it will be sent from.
+// The poll, document 01, "Frames", and document 02, L3: a frame answered in the reply buffer that it will be sent from.
 ghost use mathlib.Core.Path.{_≡_};
-ghost use mathlib.Core.Bool.{cond};
-ghost use lib.Dec.{ltb};
-ghost use Rattle.basics.specs.Card.{doneNo, replyNo, firstOf};
-ghost use Rattle.polls.specs.Lent.{leastBuffer};
-ghost use Rattle.gateway.specs.Poll.{Polled};
+ghost use Rattle.basics.specs.Card.{firstOf};
+ghost use Rattle.gateway.specs.Poll.{lentNumber, Polled};
 use archive::layout::ALARM_DEPTH;
 use basics::card::DONE;
 use basics::card::REPLY;
+use basics::card::TABLE;
+use points::table::TABLE_BYTES;
 use polls::poll::answer;
 use state::check::check;
 use state::parts::Line;
@@ -24,12 +23,15 @@ pub struct PollAnswer {
 // The least bytes of a reply buffer: no reply is longer.
 const LEAST_BUFFER: usize = 256;
 
-// A poll's number, behind the state's: Reply (13).
-fn poll_number(number: u32, buffer_size: usize) -> u32
-    ensures { λ r. ⌜ r ≡ firstOf number (cond (ltb «buffer_size» leastBuffer) replyNo doneNo) ⌝ }
+// A poll's number, behind the state's: Table (3), Reply (13); 0 where none applies.
+fn poll_number(number: u32, table_size: usize, buffer_size: usize) -> u32
+    ensures { λ r. ⌜ r ≡ firstOf number (lentNumber «table_size» «buffer_size») ⌝ }
 {
     if number != DONE {
         return number;
+    }
+    if table_size != TABLE_BYTES {
+        return TABLE;
     }
     if buffer_size < LEAST_BUFFER {
         return REPLY;
@@ -37,18 +39,20 @@ fn poll_number(number: u32, buffer_size: usize) -> u32
     DONE
 }
 
-// Poll: answers a frame of any length and content at the start of the reply buffer. Bytes past the reply are left as they were.
+// Poll: answers a frame of any length and content at the start of the reply buffer, from the archive or the live table. Bytes past the
+// reply are left as they were.
 #[no_mangle]
 pub extern "C" fn windrow_gateway_poll(
     s: State,
     archive: &[u8],
+    table: &[u8],
     frame: &[u8],
     reply: &mut [u8],
 ) -> PollAnswer
-    ensures { λ r. ⌜ Polled s (now (archive .entry)) (now (frame .entry)) (now (reply .entry)) r (now (archive .exit)) (now (reply .exit)) ⌝ }
+    ensures { λ r. ⌜ Polled s (now (archive .entry)) (now (table .entry)) (now (frame .entry)) (now (reply .entry)) r (now (archive .exit)) (now (reply .exit)) ⌝ }
 {
     let checked = check(s, archive.len());
-    let number = poll_number(checked.number, reply.len());
+    let number = poll_number(checked.number, table.len(), reply.len());
     if number != DONE {
         return PollAnswer {
             number,
@@ -65,6 +69,7 @@ pub extern "C" fn windrow_gateway_poll(
         state.site.unit,
         frame,
         archive,
+        table,
         &state.files.layout.groups,
         &state.files.layout.limits,
         &checked.sizes,

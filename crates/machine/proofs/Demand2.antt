@@ -14,7 +14,7 @@ use Rattle.basics.specs.Card.{emptyNo}
 use Rattle.basics.specs.Lists.{allZero}
 use Rattle.basics.proofs.Tests.{eqb-same}
 use Rattle.modbus.specs.Crc.{withCrc, endsInCrc}
-use Rattle.modbus.specs.Frame.{goodUnit, readReply}
+use Rattle.modbus.specs.Frame.{goodUnit, readReply, readReplyBy}
 use Rattle.modbus.proofs.Laws.{framed-checks}
 use Rattle.points.specs.declared.groups.Judged.the-variants.{Good}
 use Rattle.points.specs.Groups.{recordSize, judged}
@@ -55,19 +55,19 @@ module _ (unit size : ℕ) (gs : List ℕ) (dayFirst : Bool) (ours : goodUnit un
   blank-long = length-replicate size 0
 
   frame-long : length frame ≡ size + 5
-  unfolding readReply withCrc
+  unfolding readReplyBy withCrc
   frame-long = simp length-append (omega (arith, blank-long))
 
   frame-head : (getD frame 0 0 ≡ unit) × (getD frame 1 0 ≡ 3) × (getD frame 2 0 ≡ length blank)
-  unfolding readReply withCrc
+  unfolding readReplyBy withCrc
   frame-head = (refl, refl, refl)
 
   frame-ends : endsInCrc frame ≡ true
-  unfolding readReply
+  unfolding readReplyBy
   frame-ends = framed-checks (unit ∷ 3 ∷ length blank ∷ blank)
 
   frame-part : recordPart frame size ≡ blank
-  unfolding readReply withCrc
+  unfolding readReplyBy withCrc
   frame-part = take-at blank _ size blank-long
 
   frame-replies : isReply frame size ≡ true

@@ -45,14 +45,14 @@ gives s m (trigger f p) = answering (triggerAnswer s (length m) f p) m (record {
 gives s m (alarm k point type transducer) =
     answering (alarmAnswer s (length m) k point type transducer) m (record { answer = refl; memory = refl })
 gives s m (scan table stamp) = answering (scanAnswer s m table stamp) (scanMemory s m table stamp) (record { answer = refl; memory = refl })
-gives s m (poll frame buffer) =
+gives s m (poll table frame buffer) =
     record {
       told = _;
       state = _;
       memory = m;
       met = record {
-        answer = pollAnswer s m frame (length buffer);
-        buffer = pollBuffer s m frame buffer;
+        answer = pollAnswer s m table frame (length buffer);
+        buffer = pollBuffer s m table frame buffer;
         meets = record { answer = refl; memory = refl; reply = refl };
         is = refl;
         left = refl;

@@ -11,6 +11,7 @@ use lib.Dec.{leb}
 use lib.ListN.{length, getD}
 use Rattle.basics.proofs.Tests.{eqb-same}
 use Rattle.modbus.specs.Frame.{addressOf, quantityOf, readReply}
+use Rattle.points.specs.Table.{tableBytes}
 use Rattle.archive.specs.Layout.{allFiles}
 use Rattle.polls.specs.declared.request.Asked.the-variants.{WholeRecord}
 use Rattle.polls.specs.View.{View}
@@ -67,13 +68,14 @@ module _ (v : View) (frame : List ℕ) (f k : ℕ) (file : f < allFiles) (first 
   record-reply (byRequested q is read) = read-reply _ _ read (on-700 (v .limit) (v .requested) f k file first last q is)
 
 -- ---- a poll that is not refused
-module _ (s : State) (m frame buffer : List ℕ) (taken : stateNumber s (length m) ≡ 0) (room : leastBuffer ≤ length buffer) where
-  poll-accepted : pollNumber s (length m) (length buffer) ≡ 0
+module _ (s : State) (m table frame buffer : List ℕ) (taken : stateNumber s (length m) ≡ 0) (whole : length table ≡ tableBytes)
+    (room : leastBuffer ≤ length buffer) where
+  poll-accepted : pollNumber s (length m) (length table) (length buffer) ≡ 0
   unfolding pollNumber
-  poll-accepted = simp (taken, le-ltb (length buffer) leastBuffer room)
+  poll-accepted = simp (taken, whole, le-ltb (length buffer) leastBuffer room)
 
-  poll-replies : {o : Outcome} {s′ : State} {m′ : List ℕ} → Meets s m (poll frame buffer) o s′ m′ →
-      o ≡ repliedWith buffer (replyTo (pollView s m) frame)
+  poll-replies : {o : Outcome} {s′ : State} {m′ : List ℕ} → Meets s m (poll table frame buffer) o s′ m′ →
+      o ≡ repliedWith buffer (replyTo (pollView s m table) frame)
   unfolding pollAnswer pollBuffer
   poll-replies given =
       given .is ∙ ap₂ (λ r b. replied (r .number) (r .length) b) (given .meets .answer) (given .meets .reply) ∙ rw poll-accepted refl
@@ -93,6 +95,6 @@ same-bytes dayFirst unit m₀ cs os s m ran f file k buffer o polled =
     let taken = subst (λ t. stateNumber t (length m) ≡ 0) (sym (end .0 .state)) (none-applies M m (end .1)) in
     let ours = unit-kept ran in
     let asks = subst (λ u. ReadsRecord u (s .line .requested) f k (polled .frame)) (sym ours) (polled .asks) in
-    let reply = record-reply (pollView s m) (polled .frame) f k file (polled .first) (polled .last) asks in
-    poll-replies s m (polled .frame) buffer taken (polled .room) (polled .met)
+    let reply = record-reply (pollView s m (polled .table)) (polled .frame) f k file (polled .first) (polled .last) asks in
+    poll-replies s m (polled .table) (polled .frame) buffer taken (polled .whole) (polled .room) (polled .met)
     ∙ ap (repliedWith buffer) (reply ∙ ap (λ u. readReply u (recordBytes s m f k)) ours)

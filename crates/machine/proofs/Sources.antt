@@ -36,7 +36,7 @@ site-step M (define f gs n) = by-step (λ N. N .site ≡ M .site) M (define f gs
 site-step M (trigger f p) = by-step (λ N. N .site ≡ M .site) M (trigger f p) refl (λ _. refl)
 site-step M (alarm k point type transducer) = by-step (λ N. N .site ≡ M .site) M (alarm k point type transducer) refl (λ _. refl)
 site-step M (scan table stamp) = by-step (λ N. N .site ≡ M .site) M (scan table stamp) refl (λ _. refl)
-site-step M (poll frame buffer) = by-step (λ N. N .site ≡ M .site) M (poll frame buffer) refl (λ _. refl)
+site-step M (poll table frame buffer) = by-step (λ N. N .site ≡ M .site) M (poll table frame buffer) refl (λ _. refl)
 
 pub site-kept : (M : Machine) (cs : List Call) → after M cs .site ≡ M .site
 site-kept M [] = refl
@@ -111,7 +111,7 @@ module _ (all : List Call) where
   step-made M (trigger f p) called old = by-step (AllMade all) M (trigger f p) old (λ _. old)
   step-made M (alarm k point type transducer) called old = by-step (AllMade all) M (alarm k point type transducer) old (λ _. old)
   step-made M (scan table stamp) called old = by-step (AllMade all) M (scan table stamp) old (scan-made M table stamp called old)
-  step-made M (poll frame buffer) called old = by-step (AllMade all) M (poll frame buffer) old (λ _. old)
+  step-made M (poll table frame buffer) called old = by-step (AllMade all) M (poll table frame buffer) old (λ _. old)
 
   made-along : (M : Machine) (cs : List Call) → ((c : Call) → List·Memᴰ c cs → List·Memᴰ c all) → AllMade all M → AllMade all (after M cs)
   made-along M [] among old = old

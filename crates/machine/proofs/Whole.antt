@@ -25,7 +25,7 @@ steps M m good start = start-steps M m good
 steps M m good (trigger f p) = trigger-steps M m good f p
 steps M m good (alarm k point type transducer) = alarm-steps M m good k point type transducer
 steps M m good (scan table stamp) = scan-steps M m good table stamp
-steps M m good (poll frame buffer) = poll-steps M m good frame buffer
+steps M m good (poll table frame buffer) = poll-steps M m good table frame buffer
 
 memory-is : (M : Machine) (m : List ℕ) → Good M m → m ≡ memoryOf M
 memory-is M m good =

@@ -1,6 +1,6 @@
--- Document 01, "The plain machine": its state, and what each call does to it and is answered. Nothing here knows of the gateway's state.
--- Archive memory is no part of it: View.antt works it out from the lists of captures, so that emptied lists are memory all zeros.
--- Files are counted from 0, as in the archive's Layout.antt; calls name files and slots from 1, as the paper does.
+-- Document 01, "The plain machine", with document 02, L3: its state, and what each call does to it and is answered. Nothing here knows of
+-- the gateway's state. Archive memory is no part of it: View.antt works it out from the lists of captures, so that emptied lists are memory
+-- all zeros. Files are counted from 0, as in the archive's Layout.antt; calls name files and slots from 1, as the paper does.
 use mathlib.Core.Bool.{Bool, true, false, cond, not, _&&_, _||_}
 use mathlib.Core.List.{List, [], _∷_}
 use Prim.Native.Nat.{ℕ, _-_}
@@ -88,8 +88,8 @@ pub data Call : Type 0 where
   alarm : ℕ → ℕ → ℕ → ℕ → Call
   -- live table, stamp
   scan : List ℕ → Stamp → Call
-  -- frame, reply buffer
-  poll : List ℕ → List ℕ → Call
+  -- live table, frame, reply buffer
+  poll : List ℕ → List ℕ → List ℕ → Call
 
 -- ---- Layout: files 1 to 10 in order, then the alarm file, of 500 records at any site; of the drafted and of the laid-out definitions
 abbrev pub depthOf : Site → ℕ
@@ -108,14 +108,15 @@ pointerOf l lists f = pointerAfter (limitOf l f) (length (lists f))
 abbrev pub recordNow : Layout → (ℕ → List (List ℕ)) → ℕ → ℕ → List ℕ
 recordNow l lists f k = recordAfter (limitOf l f) (sizeOf l f) (lists f) k
 
--- what a poll sees: reads use the layout, never the draft
-unfoldable pub viewOf : Machine → View
-viewOf m = record {
+-- what a poll sees: reads use the layout, never the draft; live points are read from the table that the poll is lent
+unfoldable pub viewOf : Machine → List ℕ → View
+viewOf m table = record {
   unit = m .site .unit;
   limit = limitOf (layout m);
   pointer = pointerOf (layout m) (m .files .lists);
   requested = m .files .requested;
   reads = recordNow (layout m) (m .files .lists);
+  table = table;
 }
 
 -- ---- what each call does where the service card does not refuse it
@@ -194,7 +195,7 @@ does m (alarm k point type transducer) =
     withSettings m (m .settings .drafted) (m .settings .triggers) (set (m .settings .slots) (k - 1) slot)
 does m (scan table stamp) = scanned m table stamp
 -- a frame: only a 06 changes anything, a requested number
-does m (poll frame buffer) = withRequested m (requestedAfter (viewOf m) frame)
+does m (poll table frame buffer) = withRequested m (requestedAfter (viewOf m table) frame)
 
 -- ---- the service card, judged by the machine's own state: the lowest number that applies, with what it carries, or done. Memory (1) and
 -- Foreign (2) apply to Fresh alone, as the machine keeps its own state and archive memory
@@ -234,7 +235,10 @@ cardFor m (scan table stamp) =
     cond (not (eqb (length table) tableBytes)) (card tableNo 0)
     (cond (not (inRange stamp)) (card clockNo 0)
     doneCard)
-cardFor m (poll frame buffer) = cond (ltb (length buffer) leastBuffer) (card replyNo 0) doneCard
+cardFor m (poll table frame buffer) =
+    cond (not (eqb (length table) tableBytes)) (card tableNo 0)
+    (cond (ltb (length buffer) leastBuffer) (card replyNo 0)
+    doneCard)
 
 -- a call that the service card refuses changes nothing
 unfoldable pub step : Machine → Call → Machine
@@ -256,9 +260,9 @@ outcome m start = answered (cardFor m start)
 outcome m (trigger f p) = answered (cardFor m (trigger f p))
 outcome m (alarm k point type transducer) = answered (cardFor m (alarm k point type transducer))
 outcome m (scan table stamp) = answered (cardFor m (scan table stamp))
-outcome m (poll frame buffer) =
-    let number = cardFor m (poll frame buffer) .number in
-    let reply = replyTo (viewOf m) frame in
+outcome m (poll table frame buffer) =
+    let number = cardFor m (poll table frame buffer) .number in
+    let reply = replyTo (viewOf m table) frame in
     cond (eqb number doneNo) (replied doneNo (length reply) (pasted buffer 0 reply)) (replied number 0 buffer)
 
 -- ---- a whole list

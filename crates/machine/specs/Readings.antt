@@ -9,6 +9,7 @@ use lib.ListN.{length, getD, drop, replicate}
 use Rattle.basics.specs.Card.{doneNo}
 use Rattle.basics.specs.Lists.{pasted, allZero}
 use Rattle.modbus.specs.Frame.{unitOf, functionOf, addressOf, quantityOf, readReply}
+use Rattle.points.specs.Table.{tableBytes}
 use Rattle.archive.specs.Layout.{limitOf, sizeOf, baseOf, layoutSize, allFiles}
 use Rattle.archive.specs.Ring.{recordIn}
 use Rattle.polls.specs.Frames.{isHeard}
@@ -84,16 +85,19 @@ pub data ReadsRecord (unit : ℕ) (requested : List ℕ) (f k : ℕ) (frame : Li
   byQuantity : Read unit (720 + (f + 1)) k frame → ReadsRecord unit requested f k frame
   byRequested : (q : ℕ) → getD requested f 0 ≡ k → Read unit (700 + (f + 1)) q frame → ReadsRecord unit requested f k frame
 
--- such a poll over state s and archive memory m, with k one of 1..n and a reply buffer that is not under 256, and its outcome
+-- such a poll over state s and archive memory m, with k one of 1..n, a live table of 1,424 bytes and a reply buffer that is not under 256,
+-- and its outcome
 pub record RecordPolled (unit : ℕ) (s : State) (m : List ℕ) (f k : ℕ) (buffer : List ℕ) (o : Outcome) : Type 0 where
+  pub table : List ℕ
   pub frame : List ℕ
   pub asks : ReadsRecord unit (s .line .requested) f k frame
   pub first : 1 ≤ k
   pub last : k ≤ limitOf (laidOut s) f
+  pub whole : length table ≡ tableBytes
   pub room : leastBuffer ≤ length buffer
   pub state : State
   pub memory : List ℕ
-  pub met : Meets s m (poll frame buffer) o state memory
+  pub met : Meets s m (poll table frame buffer) o state memory
 
 -- it is done, with the reply's length, and the reply at the start of the buffer, the rest as lent
 abbrev pub repliedWith : List ℕ → List ℕ → Outcome

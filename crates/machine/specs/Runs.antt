@@ -37,7 +37,7 @@ Meets s m start = Answering (Started s m)
 Meets s m (trigger f p) = Answering (TriggerSet s m f p)
 Meets s m (alarm k point type transducer) = Answering (AlarmSet s m k point type transducer)
 Meets s m (scan table stamp) = Answering (Scanned s m table stamp)
-Meets s m (poll frame buffer) = Replying (Polled s m frame buffer)
+Meets s m (poll table frame buffer) = Replying (Polled s m table frame buffer)
 
 -- ---- calls one after the other, each over the state and memory that the one before it left
 pub data Runs : State → List ℕ → List Call → List Outcome → State → List ℕ → Type 0 where

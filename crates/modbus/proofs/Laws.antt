@@ -5,7 +5,7 @@
 --     length-framed    its length
 --     crc-behind       the CRC of a buffer's first bytes, stored behind them
 --     header-closed    three bytes of a header before bytes that stand in a buffer, and the CRC behind them
---     closed-over      bytes that were put behind the place of a header, made a read reply
+--     closed-over, closed-part    bytes that were put behind the place of a header, or into the part there, made a read reply
 --     word-read-back   a word written at any place of a list reads back
 use mathlib.Core.Path.{_≡_, sym, ap, _∙_, subst}
 use mathlib.Core.List.{List, [], _∷_, _++_, append-assoc}
@@ -19,10 +19,10 @@ use lib.Bits.{bitXor, xor-lt}
 use lib.ListN.{length, getD, take, drop, length-append}
 use lib.Seq.{sets, drop-cons, drop-length, getD-at, length-take-le, take-append-seam, drop-append-seam}
 use Rattle.basics.specs.Lists.{pasted}
-use Rattle.basics.proofs.Lists.{sets-pasted, part-here, pasted-over}
+use Rattle.basics.proofs.Lists.{sets-pasted, part-here, part-back, pasted-over}
 use Rattle.basics.proofs.Tests.{eqb-same}
 use Rattle.modbus.specs.Crc.{crcShift, crcShifts, crcByte, crcFrom, crcOf, crcBytes, withCrc, endsInCrc}
-use Rattle.modbus.specs.Frame.{readReply, Sent}
+use Rattle.modbus.specs.Frame.{readReplyBy, Sent}
 use Rattle.modbus.specs.Word.{wordAt, wordBytes}
 
 -- ---- the CRC fits 16 bits
@@ -101,17 +101,29 @@ header-closed b x y z size n fits is =
     ∙ pasted-over b head (withCrc (x ∷ y ∷ z ∷ take size (drop 3 b))) 0 (omega arith) (rw length-framed (omega arith))
 
 -- bytes that were put behind the place of a header, made a read reply
-pub closed-over : (b bytes b′ : List ℕ) (unit size told : ℕ) → length bytes ≡ size → 3 + size ≤ length b →
-    Sent (readReply unit (take size (drop 3 (pasted b 3 bytes)))) (pasted b 3 bytes) told b′ → Sent (readReply unit bytes) b told b′
-unfolding readReply
-closed-over b bytes b′ unit size told long fits sent =
+pub closed-over : (b bytes b′ : List ℕ) (unit function size told : ℕ) → length bytes ≡ size → 3 + size ≤ length b →
+    Sent (readReplyBy unit function (take size (drop 3 (pasted b 3 bytes)))) (pasted b 3 bytes) told b′ →
+    Sent (readReplyBy unit function bytes) b told b′
+unfolding readReplyBy
+closed-over b bytes b′ unit function size told long fits sent =
     let there : take size (drop 3 (pasted b 3 bytes)) ≡ bytes
     = ap (λ n. take n (drop 3 (pasted b 3 bytes))) (sym long) ∙ part-here b bytes 3 (omega arith) in
-    let now = subst (λ x. Sent (readReply unit x) (pasted b 3 bytes) told b′) there sent in
+    let now = subst (λ x. Sent (readReplyBy unit function x) (pasted b 3 bytes) told b′) there sent in
     record {
       size = now .size;
-      left = now .left ∙ pasted-over b bytes (readReply unit bytes) 3 (omega arith) (rw length-framed (omega arith));
+      left = now .left ∙ pasted-over b bytes (readReplyBy unit function bytes) 3 (omega arith) (rw length-framed (omega arith));
     }
+
+-- bytes w that a writer left in the part behind the place of a header, made a read reply
+pub closed-part : (b w bytes b′ : List ℕ) (unit function size told : ℕ) → w ≡ bytes → length bytes ≡ size → 3 + size ≤ length b →
+    (let x = take 3 b ++ (w ++ drop (3 + size - 3) (drop 3 b)) in Sent (readReplyBy unit function (take size (drop 3 x))) x told b′) →
+    Sent (readReplyBy unit function bytes) b told b′
+closed-part b w bytes b′ unit function size told is long fits sent =
+    let to : size ≡ 3 + size - 3 = omega arith in
+    let back : take 3 b ++ (w ++ drop (3 + size - 3) (drop 3 b)) ≡ pasted b 3 bytes
+    = ap (λ y. take 3 b ++ (y ++ drop (3 + size - 3) (drop 3 b))) is ∙ part-back b bytes 3 (3 + size - 3) (long ∙ to) in
+    closed-over b bytes b′ unit function size told long fits
+    (subst (λ x. Sent (readReplyBy unit function (take size (drop 3 x))) x told b′) back sent)
 
 -- ---- words
 pub word-read-back : (s : List ℕ) (i w : ℕ) → i + 2 ≤ length s → wordAt (pasted s i (wordBytes w)) i ≡ w

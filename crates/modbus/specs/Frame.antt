@@ -1,4 +1,5 @@
--- Document 01, "Frames": our unit, the fields of a request, a read reply, an exception, and a frame in a reply buffer.
+-- Document 01, "Frames", with document 02, L3: our unit, the fields of a request, a read reply, an exception, and a frame in a reply
+-- buffer.
 use mathlib.Core.List.{List, [], _∷_}
 use mathlib.Core.Path.{_≡_}
 use mathlib.Core.Bool.{Bool, cond}
@@ -27,9 +28,12 @@ addressOf frame = wordAt frame 2
 abbrev pub quantityOf : List ℕ → ℕ
 quantityOf frame = wordAt frame 4
 
--- ---- read reply: unit, 03, byte count, bytes, CRC
-unfoldable pub readReply : ℕ → List ℕ → List ℕ
-readReply unit bytes = withCrc (unit ∷ 3 ∷ length bytes ∷ bytes)
+-- ---- read reply: unit, 03, byte count, bytes, CRC; a reply to 01 carries 01 where a read has 03
+unfoldable pub readReplyBy : ℕ → ℕ → List ℕ → List ℕ
+readReplyBy unit function bytes = withCrc (unit ∷ function ∷ length bytes ∷ bytes)
+
+abbrev pub readReply : ℕ → List ℕ → List ℕ
+readReply unit bytes = readReplyBy unit 3 bytes
 
 -- ---- exceptions, by their names in the Modbus standard
 abbrev pub illegalFunction : ℕ

@@ -4,8 +4,15 @@ ghost use Prim.Native.Nat.{_+_, _≤_};
 ghost use lib.ListN.{length, take, drop};
 ghost use Rattle.basics.specs.Lists.{pasted};
 ghost use Rattle.modbus.specs.Crc.{withCrc};
-ghost use Rattle.modbus.specs.Frame.{readReply, highBitSet, exceptionReply, Sent};
+ghost use Rattle.modbus.specs.Frame.{readReplyBy, highBitSet, exceptionReply, Sent};
 use crate::crc::crc_of;
+
+// The functions that a gateway knows: flags read, all else read, a requested number written.
+pub const READ_FLAGS: u8 = 1;
+
+pub const READ: u8 = 3;
+
+pub const WRITE: u8 = 6;
 
 // The codes of exceptions, by their names in the Modbus standard.
 pub const ILLEGAL_FUNCTION: u8 = 1;
@@ -24,13 +31,13 @@ fn write_crc(buffer: &mut [u8], n: usize)
     buffer[n + 1] = (sum / 256) as u8;
 }
 
-// Makes a read reply of the bytes that stand from byte 3 on, and answers its length.
-pub fn close_read_reply(buffer: &mut [u8], unit: u8, size: usize) -> usize
+// Makes a read reply of the bytes that stand from byte 3 on, and answers its length. It carries the function that asked.
+pub fn close_read_reply(buffer: &mut [u8], unit: u8, function: u8, size: usize) -> usize
     requires { ⌜ (size ≤ 250) × (size + 5 ≤ length (now buffer)) ⌝ }
-    ensures { λ r. ⌜ Sent (readReply unit (take size (drop 3 (now (buffer .entry))))) (now (buffer .entry)) r (now (buffer .exit)) ⌝ }
+    ensures { λ r. ⌜ Sent (readReplyBy unit function (take size (drop 3 (now (buffer .entry))))) (now (buffer .entry)) r (now (buffer .exit)) ⌝ }
 {
     buffer[0] = unit;
-    buffer[1] = 3;
+    buffer[1] = function;
     buffer[2] = size as u8;
     write_crc(buffer, size + 3);
     size + 5

@@ -4,6 +4,7 @@
 --     boolean-inside, boolean-is, float-inside, float-is    a point that is a Boolean or 0, or a float or 0, and is not 0: its bounds and its row
 --     boolean-row, boolean-found, boolean-point    a Boolean point and its row
 --     float-size            a float has four bytes
+--     group-of-run, group-of-one    points of a row that are a group
 --     group-size-small     a group adds at most the live table's bytes
 --     judged-done, judged-good    a definition that is not refused
 --     rest-zero, rest-unused    places of zeros behind those that the code walks
@@ -183,14 +184,18 @@ flags-within r p n i e bits more =
     let room : r .offset + (r .last + 1 - r .first + 7) / 8 < tableBytes = ltb-true _ _ (simp bits at inside) in
     omega (arith, ok .looked .from, ok .ends, room)
 
+-- points of a row, at least one and none past its end, are a group
+pub group-of-run : (p n : ℕ) (r : Row) → rowOf p ≡ In r → 1 ≤ n → endsInRow r p n ≡ true → groupOf p n ≡ Points r
+unfolding groupOf unused
+group-of-run p n r e some ends =
+    let ok = lookup-sound p r e in
+    let used : eqb p 0 ≡ false = ne-eqb p 0 (λ z. omega (arith, ok .named, ok .from)) in
+    simp (used, e, le-leb 1 n some, ends)
+
 -- a point of a row is a group of one
 pub group-of-one : (p : ℕ) (r : Row) → rowOf p ≡ In r → groupOf p 1 ≡ Points r
-unfolding groupOf unused endsInRow
-group-of-one p r e =
-    let ok = lookup-sound p r e in
-    let some : eqb p 0 ≡ false = ne-eqb p 0 (λ z. omega (arith, ok .named, ok .from)) in
-    let ends : leb (p + 1) (r .last + 1) ≡ true = le-leb (p + 1) (r .last + 1) (omega (arith, ok .to)) in
-    simp (some, e, ends)
+unfolding endsInRow
+group-of-one p r e = group-of-run p 1 r e (omega arith) (le-leb (p + 1) (r .last + 1) (omega (arith, lookup-sound p r e .to)))
 
 -- ---- points of one row, or 0
 -- a point of row r, or 0, that is not 0

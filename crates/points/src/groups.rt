@@ -36,7 +36,7 @@ fn is_unused(point: u16, count: u16) -> bool
 }
 
 // Whether the points end in the row of the first. The sums are wider than 16 bits.
-fn ends_in_row(row: Row, point: u16, count: u16) -> bool
+pub fn ends_in_row(row: Row, point: u16, count: u16) -> bool
     ensures { λ r. ⌜ r ≡ endsInRow row point count ⌝ }
 {
     (point as u32) + (count as u32) <= (row.last as u32) + 1

@@ -1,5 +1,5 @@
 -- Two views that agree give the same reply and leave the same numbers requested. Assumes nothing.
---     Agree             on unit, requested numbers, every file's n and pointer, and its records 1 to n
+--     Agree             on unit, requested numbers, the live table, every file's n and pointer, and its records 1 to n
 --     asked-same        they are asked the same
 --     replies-same, requested-same    the reply, and what is left requested
 use mathlib.Core.Path.{_≡_, refl, ap, ap₂, _∙_}
@@ -10,13 +10,14 @@ use native.Mathlib.Omega.{arith}
 use lib.Dec.{eqb}
 use lib.ListN.{length, getD, take}
 use Rattle.basics.proofs.Tests.{and-left}
-use Rattle.modbus.specs.Frame.{unitOf, functionOf, addressOf, quantityOf, readReply, exceptionReply}
+use Rattle.modbus.specs.Frame.{unitOf, functionOf, addressOf, quantityOf, readReply, readReplyBy, exceptionReply}
+use Rattle.records.specs.Capture.{capturedPoints}
 use Rattle.archive.specs.Layout.{allFiles}
 use Rattle.polls.specs.declared.request.Asked.{Asked}
-use Rattle.polls.specs.declared.request.Asked.the-variants.{Exception, WholeRecord, StampOnly, Registers, SetRequested}
+use Rattle.polls.specs.declared.request.Asked.the-variants.{Exception, WholeRecord, StampOnly, Registers, LivePoints, SetRequested}
 use Rattle.polls.specs.View.{View}
 use Rattle.polls.specs.Addresses.{onFile, fileAt, allRegisters, firstRegister, onRegister, onRequested, recordAsked, stampAsked, numberAsked, readAsked, writeAsked}
-use Rattle.polls.specs.Frames.{isHeard, asked, register, replyOf, requestedBy, askedOf, replyTo, requestedAfter}
+use Rattle.polls.specs.Frames.{isHeard, isKnown, asked, register, replyOf, requestedBy, askedOf, replyTo, requestedAfter}
 use Rattle.polls.specs.Lent.{Passed}
 use Rattle.polls.proofs.Laws.{on-file, on-registers, registers-by, asked-passed}
 
@@ -26,6 +27,7 @@ pub record Agree (v w : View) : Type 0 where
   pub pointer : (f : ℕ) → f < allFiles → v .pointer f ≡ w .pointer f
   pub requested : v .requested ≡ w .requested
   pub reads : (f : ℕ) → f < allFiles → (k : ℕ) → 1 ≤ k → k ≤ v .limit f → v .reads f k ≡ w .reads f k
+  pub table : v .table ≡ w .table
 
 -- the same test leads to the same
 same-test : {A : Type 0} (b : Bool) {x x′ y y′ : A} → (b ≡ true → x ≡ x′) → (b ≡ false → y ≡ y′) → cond b x y ≡ cond b x′ y′
@@ -53,10 +55,11 @@ module _ (limit limit′ : ℕ → ℕ) (same : (f : ℕ) → f < allFiles → l
   pub asked-same : (requested frame : List ℕ) → asked limit requested frame ≡ asked limit′ requested frame
   unfolding asked
   asked-same requested frame =
-      same-test (not (eqb (functionOf frame) 3 || eqb (functionOf frame) 6)) (λ _. refl)
+      same-test (not (isKnown (functionOf frame))) (λ _. refl)
       (λ _. same-test (not (eqb (length frame) 8)) (λ _. refl)
+      (λ _. same-test (eqb (functionOf frame) 1) (λ _. refl)
       (λ _. same-test (eqb (functionOf frame) 3) (λ _. read-same requested (addressOf frame) (quantityOf frame))
-      (λ _. write-same (addressOf frame) (quantityOf frame))))
+      (λ _. write-same (addressOf frame) (quantityOf frame)))))
 
 -- ---- what is answered
 module _ (v w : View) (agree : Agree v w) where
@@ -76,6 +79,8 @@ module _ (v w : View) (agree : Agree v w) where
       ap₂ (λ u bs. readReply u (take 6 bs)) (agree .unit) (agree .reads f (passed .file) k (passed .first) (passed .last))
   answer-same frame (Registers i q) passed =
       ap₂ readReply (agree .unit) (registers-by v w i q (λ j below. register-same j (omega (arith, below, passed))))
+  answer-same frame (LivePoints r p q) passed =
+      ap₂ (λ u t. readReplyBy u (functionOf frame) (capturedPoints t r p q)) (agree .unit) (agree .table)
   answer-same frame (SetRequested f x) passed = refl
 
   asks-same : (frame : List ℕ) → askedOf v frame ≡ askedOf w frame

@@ -2,6 +2,7 @@
 --     on-file, on-registers   the file, or the register, of an address that is in its row
 --     asked-passed            what is asked has passed its checks
 --     length-registers, registers-by, registers-put    the bytes of registers: how many, by each, and one more in a reply buffer
+--     live-captured           the bytes of live points are those of a captured group
 --     record-lent, sets-file  what a poll that is lent its parts lends its steps
 --     no-reply, replied, unasked, asked-for    a frame that is not answered, or is; that leaves what is requested, or sets it
 --     heard-long              the length of a frame that is heard
@@ -12,26 +13,33 @@ use mathlib.Core.Bool.{true, false, not, _&&_, _||_}
 use Prim.Native.Nat.{ℕ, zero, suc, _+_, _-_, _*_, _/_, _%_, _≤_, _<_}
 use native.Mathlib.Numerals.{add-one}
 use native.Mathlib.Omega.{arith}
-use borrow.Author.Tests.{leb-true, ltb-false, not-false}
+use borrow.Author.Tests.{leb-true, ltb-false, eqb-false, not-false}
 use lib.Dec.{eqb, ltb}
 use lib.ListN.{length, getD, length-append}
 use Rattle.basics.specs.Lists.{pasted}
 use Rattle.basics.specs.Numbers.{within}
 use Rattle.basics.proofs.Lists.{pasted-append}
-use Rattle.basics.proofs.Tests.{by-cond, and-left, within-inside}
+use Rattle.basics.proofs.Tests.{by-cond, and-left, or-left, or-right, within-inside}
 use Rattle.modbus.specs.Word.{wordBytes}
 use Rattle.modbus.specs.Crc.{endsInCrc}
 use Rattle.modbus.specs.Frame.{Sent, unitOf, functionOf, addressOf, quantityOf}
+use Rattle.points.specs.declared.table.Row.{Row}
+use Rattle.points.specs.declared.table.Found.{Found}
+use Rattle.points.specs.declared.table.Found.the-variants.{In, Nowhere}
+use Rattle.points.specs.Table.{rowOf, pointsSize}
+use Rattle.points.specs.Groups.{endsInRow, groupOf}
+use Rattle.points.proofs.Laws.{group-of-run}
+use Rattle.records.specs.Capture.{capturedPoints, capturedGroup}
 use Rattle.archive.specs.Layout.{layoutFrom, allFiles, limitOf, sizeOf, layoutSize, hasRoom}
 use Rattle.archive.specs.Lent.{fileOf}
 use Rattle.archive.proofs.Layouts.{size-within, file-inside}
 use Rattle.archive.proofs.Scans.{set-within}
 use Rattle.polls.specs.declared.request.Asked.{Asked}
-use Rattle.polls.specs.declared.request.Asked.the-variants.{Exception, WholeRecord, StampOnly, Registers, SetRequested}
-use Rattle.polls.specs.Addresses.{onFile, fileAt, allRegisters, firstRegister, onRegister, onRequested, recordAsked, stampAsked, registersAsked, numberAsked, readAsked, writeAsked}
+use Rattle.polls.specs.declared.request.Asked.the-variants.{Exception, WholeRecord, StampOnly, Registers, LivePoints, SetRequested}
+use Rattle.polls.specs.Addresses.{onFile, fileAt, allRegisters, firstRegister, onRegister, onRequested, mostData, functionFor, recordAsked, stampAsked, registersAsked, pointsAsked, numberAsked, liveAsked, readAsked, writeAsked}
 use Rattle.polls.specs.View.{View}
-use Rattle.polls.specs.Frames.{isHeard, asked, register, registerBytes, replyOf, requestedBy, askedOf, isOurs, replyTo, requestedAfter}
-use Rattle.polls.specs.Lent.{leastBuffer, LentRecord, LentPoll, Numbered, Passed, SetsFile}
+use Rattle.polls.specs.Frames.{isHeard, isKnown, asked, register, registerBytes, replyOf, requestedBy, askedOf, isOurs, replyTo, requestedAfter}
+use Rattle.polls.specs.Lent.{leastBuffer, LentRecord, LentPoll, Numbered, PointRun, Passed, SetsFile}
 
 -- ---- addresses
 pub on-file : (base a : ℕ) → onFile base a ≡ true → fileAt base a < allFiles
@@ -64,6 +72,22 @@ module _ (limit : ℕ → ℕ) where
       by-cond Ok (not (within 1 allRegisters q)) _ _ (λ _. tt)
       (λ _. by-cond Ok (ltb allRegisters (i + q)) _ _ (λ _. tt) (λ past. ltb-false _ _ past))
 
+  -- points from p on, of p's row
+  points-passed : (r : Row) (p q : ℕ) → rowOf p ≡ In r → Passed limit (pointsAsked r p q)
+  unfolding pointsAsked
+  points-passed r p q row =
+      by-cond Ok (eqb q 0 || ltb mostData (pointsSize r q)) _ _ (λ _. tt)
+      (λ few. by-cond Ok (not (endsInRow r p q)) _ _ (λ _. tt) (λ ends.
+      let some : q ≡ 0 → ⊥ = eqb-false q 0 (or-left (eqb q 0) (ltb mostData (pointsSize r q)) few) in
+      record {
+        grouped = group-of-run p q r row (omega arith) (not-false _ ends);
+        short = ltb-false mostData (pointsSize r q) (or-right (eqb q 0) (ltb mostData (pointsSize r q)) few);
+      }))
+
+  live-passed : (function : ℕ) (found : Found) (p q : ℕ) → rowOf p ≡ found → Passed limit (liveAsked function found p q)
+  live-passed function Nowhere p q looked = tt
+  live-passed function (In r) p q looked = by-cond Ok (eqb function (functionFor r)) _ _ (λ _. points-passed r p q looked) (λ _. tt)
+
   read-passed : (requested : List ℕ) (a q : ℕ) → Passed limit (readAsked limit requested a q)
   unfolding readAsked
   read-passed requested a q =
@@ -71,7 +95,8 @@ module _ (limit : ℕ → ℕ) where
       (λ _. by-cond Ok (onFile 720 a) _ _ (λ is. record-passed (fileAt 720 a) q (on-file 720 a is))
       (λ _. by-cond Ok (onFile 750 a) _ _ (λ is. stamp-passed (fileAt 750 a) (getD requested (fileAt 750 a) 0) (on-file 750 a is))
       (λ _. by-cond Ok (onFile 770 a) _ _ (λ is. stamp-passed (fileAt 770 a) q (on-file 770 a is))
-      (λ _. by-cond Ok (onRegister a) _ _ (λ _. registers-passed (a - firstRegister) q) (λ _. tt)))))
+      (λ _. by-cond Ok (onRegister a) _ _ (λ _. registers-passed (a - firstRegister) q)
+      (λ _. live-passed 3 (rowOf a) a q refl)))))
 
   write-passed : (a x : ℕ) → Passed limit (writeAsked limit a x)
   unfolding writeAsked numberAsked
@@ -85,10 +110,11 @@ module _ (limit : ℕ → ℕ) where
   pub asked-passed : (requested frame : List ℕ) → Passed limit (asked limit requested frame)
   unfolding asked
   asked-passed requested frame =
-      by-cond Ok (not (eqb (functionOf frame) 3 || eqb (functionOf frame) 6)) _ _ (λ _. tt)
+      by-cond Ok (not (isKnown (functionOf frame))) _ _ (λ _. tt)
       (λ _. by-cond Ok (not (eqb (length frame) 8)) _ _ (λ _. tt)
+      (λ _. by-cond Ok (eqb (functionOf frame) 1) _ _ (λ _. live-passed 1 (rowOf (addressOf frame)) (addressOf frame) (quantityOf frame) refl)
       (λ _. by-cond Ok (eqb (functionOf frame) 3) _ _ (λ _. read-passed requested (addressOf frame) (quantityOf frame))
-      (λ _. write-passed (addressOf frame) (quantityOf frame))))
+      (λ _. write-passed (addressOf frame) (quantityOf frame)))))
 
 -- ---- registers
 pub length-registers : (v : View) (i q : ℕ) → length (registerBytes v i q) ≡ 2 * q
@@ -114,13 +140,18 @@ registers-put v b b′ b″ first i w fits before is put =
     (omega (arith, length-registers v first i)) (ap (λ n. 3 + n) (sym (length-registers v first i)))
     ∙ ap (λ n. pasted b 3 (registerBytes v first n)) (sym (add-one i))
 
+-- ---- live points
+-- their bytes are those of a captured group of the same points
+pub live-captured : (table : List ℕ) (r : Row) (p q : ℕ) → PointRun r p q → capturedPoints table r p q ≡ capturedGroup table (groupOf p q) p q
+live-captured table r p q run = rw (run .grouped) refl
+
 -- ---- what a poll lends its steps
-pub record-lent : (groups limits sizes : List ℕ) (depth : ℕ) (pointers requested m buffer : List ℕ) (f k size : ℕ) →
+pub record-lent : (groups limits sizes : List ℕ) (depth : ℕ) (pointers requested m table buffer : List ℕ) (f k size : ℕ) →
     let l = layoutFrom groups limits depth in
-    LentPoll groups limits sizes depth pointers requested m buffer → Numbered (limitOf l) f k → size ≤ sizeOf l f →
+    LentPoll groups limits sizes depth pointers requested m table buffer → Numbered (limitOf l) f k → size ≤ sizeOf l f →
     LentRecord (fileOf l f) k size m buffer
 unfolding hasRoom
-record-lent groups limits sizes depth pointers requested m buffer f k size lent number part =
+record-lent groups limits sizes depth pointers requested m table buffer f k size lent number part =
     let l = layoutFrom groups limits depth in
     let room : layoutSize l ≤ length m = leb-true _ _ (lent .room) in
     record {
@@ -137,6 +168,7 @@ sets-file limit (Exception code) passed = tt
 sets-file limit (WholeRecord f k) passed = tt
 sets-file limit (StampOnly f k) passed = tt
 sets-file limit (Registers i q) passed = tt
+sets-file limit (LivePoints r p q) passed = tt
 sets-file limit (SetRequested f x) passed = passed .file
 
 -- ---- a frame, by its unit
@@ -171,6 +203,7 @@ numbers-within limit numbers old (Exception code) passed f below = old f below
 numbers-within limit numbers old (WholeRecord g k) passed f below = old f below
 numbers-within limit numbers old (StampOnly g k) passed f below = old f below
 numbers-within limit numbers old (Registers i q) passed f below = old f below
+numbers-within limit numbers old (LivePoints r p q) passed f below = old f below
 numbers-within limit numbers old (SetRequested g x) passed f below = set-within limit numbers g x f (passed .last) (old f below)
 
 pub requested-within : (v : View) (frame : List ℕ) → ((f : ℕ) → f < allFiles → getD (v .requested) f 0 ≤ v .limit f) →

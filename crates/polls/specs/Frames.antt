@@ -1,4 +1,4 @@
--- Document 01, "Frames": what a frame of any length and content is answered, and what it leaves requested.
+-- Document 01, "Frames", with document 02, L3: what a frame of any length and content is answered, and what it leaves requested.
 use mathlib.Core.List.{List, [], _++_}
 use mathlib.Core.Path.{_≡_}
 use mathlib.Core.Bool.{Bool, cond, not, _&&_, _||_}
@@ -8,11 +8,12 @@ use lib.ListN.{length, getD, set, take}
 use Rattle.basics.specs.Numbers.{within}
 use Rattle.modbus.specs.Word.{wordBytes}
 use Rattle.modbus.specs.Crc.{endsInCrc}
-use Rattle.modbus.specs.Frame.{unitOf, functionOf, addressOf, quantityOf, readReply, exceptionReply, illegalFunction, illegalValue, Sent}
+use Rattle.modbus.specs.Frame.{unitOf, functionOf, addressOf, quantityOf, readReply, readReplyBy, exceptionReply, illegalFunction, illegalValue, Sent}
+use Rattle.records.specs.Capture.{capturedPoints}
 use Rattle.polls.specs.declared.request.Asked.{Asked}
-use Rattle.polls.specs.declared.request.Asked.the-variants.{Exception, WholeRecord, StampOnly, Registers, SetRequested}
+use Rattle.polls.specs.declared.request.Asked.the-variants.{Exception, WholeRecord, StampOnly, Registers, LivePoints, SetRequested}
 use Rattle.polls.specs.View.{View}
-use Rattle.polls.specs.Addresses.{readAsked, writeAsked}
+use Rattle.polls.specs.Addresses.{flagsAsked, readAsked, writeAsked}
 
 -- ---- the checks
 -- no reply and no change: length under 4 or over 256, wrong CRC
@@ -20,15 +21,16 @@ unfoldable pub isHeard : List ℕ → Bool
 isHeard frame = within 4 256 (length frame) && endsInCrc frame
 
 abbrev pub isKnown : ℕ → Bool
-isKnown function = eqb function 3 || eqb function 6
+isKnown function = eqb function 1 || eqb function 3 || eqb function 6
 
--- then, in order: function other than 03 and 06, exception 01; length not 8, exception 03; the address table
+-- then, in order: function other than 01, 03 and 06, exception 01; length not 8, exception 03; the address table
 unfoldable pub asked : (ℕ → ℕ) → List ℕ → List ℕ → Asked
 asked limit requested frame =
     cond (not (isKnown (functionOf frame))) (Exception illegalFunction)
     (cond (not (eqb (length frame) 8)) (Exception illegalValue)
+    (cond (eqb (functionOf frame) 1) (flagsAsked (addressOf frame) (quantityOf frame))
     (cond (eqb (functionOf frame) 3) (readAsked limit requested (addressOf frame) (quantityOf frame))
-    (writeAsked limit (addressOf frame) (quantityOf frame))))
+    (writeAsked limit (addressOf frame) (quantityOf frame)))))
 
 -- ---- what is read
 -- register number i, counted from 0: n, pointer, requested, three registers a file
@@ -42,12 +44,13 @@ unfoldable pub registerBytes : View → ℕ → ℕ → List ℕ
 registerBytes v i zero = []
 registerBytes v i (suc q) = registerBytes v i q ++ wordBytes (register v (i + q))
 
--- ---- what is answered, each case of what was asked; a 06 is echoed
+-- ---- what is answered, each case of what was asked; live points are the bytes of a captured group of them; a 06 is echoed
 unfoldable pub replyOf : View → List ℕ → Asked → List ℕ
 replyOf v frame (Exception code) = exceptionReply (v .unit) (functionOf frame) code
 replyOf v frame (WholeRecord f k) = readReply (v .unit) (v .reads f k)
 replyOf v frame (StampOnly f k) = readReply (v .unit) (take 6 (v .reads f k))
 replyOf v frame (Registers i q) = readReply (v .unit) (registerBytes v i q)
+replyOf v frame (LivePoints r p q) = readReplyBy (v .unit) (functionOf frame) (capturedPoints (v .table) r p q)
 replyOf v frame (SetRequested f x) = frame
 
 -- and left requested
@@ -56,6 +59,7 @@ requestedBy (Exception code) requested = requested
 requestedBy (WholeRecord f k) requested = requested
 requestedBy (StampOnly f k) requested = requested
 requestedBy (Registers i q) requested = requested
+requestedBy (LivePoints r p q) requested = requested
 requestedBy (SetRequested f x) requested = set requested f x
 
 -- ---- a frame

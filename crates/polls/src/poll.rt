@@ -1,4 +1,4 @@
-// A frame answered, document 01, "Frames". The functions take the parts of a gateway's state that a poll looks at.
+// A frame answered, document 01, "Frames", and document 02, L3. The functions take the parts of a gateway's state that a poll looks at.
 ghost use mathlib.Core.Path.{_≡_};
 ghost use lib.ListN.{take, drop};
 ghost use Rattle.archive.specs.Layout.{layoutFrom, limitOf};
@@ -9,6 +9,7 @@ ghost use Rattle.polls.specs.Frames.{isHeard, replyOf, requestedBy, Answ
 ghost use Rattle.polls.specs.Lent.{LentRecord, LentPoll, LentAsked, SetsFile};
 use crate::reply::send_bytes;
 use crate::reply::send_echo;
+use crate::reply::send_points;
 use crate::reply::send_registers;
 use crate::request::Asked;
 use crate::request::ask;
@@ -69,6 +70,7 @@ fn requested_by(asked: Asked, requested: [u16; 11]) -> [u16; 11]
         Asked::WholeRecord(_, _) => requested,
         Asked::StampOnly(_, _) => requested,
         Asked::Registers(_, _) => requested,
+        Asked::LivePoints(_, _, _) => requested,
         Asked::SetRequested(f, number) => {
             let mut numbers = requested;
             numbers[f] = number;
@@ -84,6 +86,7 @@ fn reply_to(
     unit: u8,
     frame: &[u8],
     archive: &[u8],
+    table: &[u8],
     groups: &[u16],
     limits: &[u16],
     sizes: &[usize],
@@ -91,11 +94,11 @@ fn reply_to(
     pointers: &[u16],
     requested: &[u16],
 ) -> usize
-    requires { ⌜ LentPoll (now groups) (now limits) (now sizes) depth (now pointers) (now requested) (now archive) (now buffer) ⌝ }
+    requires { ⌜ LentPoll (now groups) (now limits) (now sizes) depth (now pointers) (now requested) (now archive) (now table) (now buffer) ⌝ }
     requires { ⌜ LentAsked (limitOf (layoutFrom (now groups) (now limits) depth)) (now frame) asked ⌝ }
     ensures { λ r. ⌜ Sent
         (replyOf
-        (archiveView unit (layoutFrom (now (groups .entry)) (now (limits .entry)) depth) (now (pointers .entry)) (now (requested .entry)) (now (archive .entry)))
+        (archiveView unit (layoutFrom (now (groups .entry)) (now (limits .entry)) depth) (now (pointers .entry)) (now (requested .entry)) (now (archive .entry)) (now (table .entry)))
         (now (frame .entry)) asked)
         (now (buffer .entry)) r (now (buffer .exit)) ⌝ }
 {
@@ -119,6 +122,9 @@ fn reply_to(
             first,
             count,
         ),
+        Asked::LivePoints(row, point, count) => {
+            send_points(buffer, unit, frame[1], table, row, point, count)
+        }
         Asked::SetRequested(_, _) => send_echo(buffer, frame),
     }
 }
@@ -130,6 +136,7 @@ pub fn answer<'a>(
     unit: u8,
     frame: &[u8],
     archive: &[u8],
+    table: &[u8],
     groups: &'a [u16],
     limits: &'a [u16],
     sizes: &[usize],
@@ -137,9 +144,9 @@ pub fn answer<'a>(
     pointers: &'a [u16],
     requested: [u16; 11],
 ) -> Answered
-    requires { ⌜ LentPoll (now groups) (now limits) (now sizes) depth (now pointers) requested (now archive) (now buffer) ⌝ }
+    requires { ⌜ LentPoll (now groups) (now limits) (now sizes) depth (now pointers) requested (now archive) (now table) (now buffer) ⌝ }
     ensures { λ r. ⌜ Answers
-        (archiveView unit (layoutFrom (now (groups .entry)) (now (limits .entry)) depth) (now (pointers .entry)) requested (now (archive .entry)))
+        (archiveView unit (layoutFrom (now (groups .entry)) (now (limits .entry)) depth) (now (pointers .entry)) requested (now (archive .entry)) (now (table .entry)))
         (now (frame .entry)) (now (buffer .entry)) (r .length) (now (buffer .exit)) (r .requested) ⌝ }
 {
     if !is_heard(frame) {
@@ -169,6 +176,7 @@ pub fn answer<'a>(
         unit,
         frame,
         archive,
+        table,
         groups,
         limits,
         sizes,

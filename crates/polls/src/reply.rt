@@ -1,14 +1,20 @@
-// Replies, document 01, "Frames", built where they are sent from: bytes go once from where they stand to byte 3 of the reply buffer.
+// Replies, document 01, "Frames", and document 02, L3, built where they are sent from: bytes go once from where they stand to byte 3 of
+// the reply buffer.
 ghost use mathlib.Core.Path.{_≡_};
 ghost use Prim.Native.Nat.{_+_, _≤_, _<_};
 ghost use lib.ListN.{length, take, drop};
-ghost use Rattle.modbus.specs.Frame.{readReply, Sent};
+ghost use Rattle.modbus.specs.Frame.{readReply, readReplyBy, Sent};
+ghost use Rattle.records.specs.Capture.{capturedPoints};
 ghost use Rattle.polls.specs.Frames.{register, registerBytes};
-ghost use Rattle.polls.specs.Lent.{LentRegisters, registerView};
+ghost use Rattle.polls.specs.Lent.{LentRegisters, LentPoints, registerView};
 use archive::layout::file_limit;
 use basics::copy_bytes;
+use modbus::frame::READ;
 use modbus::frame::close_read_reply;
 use modbus::word::put_word;
+use points::Row;
+use points::table::points_size;
+use records::record::write_points;
 
 // Sends `size` bytes of archive memory from place `at` on as a read reply, and answers its length.
 pub fn send_bytes(buffer: &mut [u8], unit: u8, archive: &[u8], at: usize, size: usize) -> usize
@@ -16,7 +22,7 @@ pub fn send_bytes(buffer: &mut [u8], unit: u8, archive: &[u8], at: usize, size: 
     ensures { λ r. ⌜ Sent (readReply unit (take size (drop at (now (archive .entry))))) (now (buffer .entry)) r (now (buffer .exit)) ⌝ }
 {
     copy_bytes(&mut buffer[3..3 + size], &archive[at..at + size]);
-    close_read_reply(buffer, unit, size)
+    close_read_reply(buffer, unit, READ, size)
 }
 
 // Sends a frame back as it came, and answers its length.
@@ -71,5 +77,25 @@ pub fn send_registers(
         );
         i += 1;
     }
-    close_read_reply(buffer, unit, 2 * count)
+    close_read_reply(buffer, unit, READ, 2 * count)
+}
+
+// Sends live points as a read reply by the function that asked, and answers its length.
+pub fn send_points(
+    buffer: &mut [u8],
+    unit: u8,
+    function: u8,
+    table: &[u8],
+    row: Row,
+    point: u16,
+    count: u16,
+) -> usize
+    requires { ⌜ LentPoints row point count (now table) (now buffer) ⌝ }
+    ensures { λ r. ⌜ Sent
+        (readReplyBy unit function (capturedPoints (now (table .entry)) row point count))
+        (now (buffer .entry)) r (now (buffer .exit)) ⌝ }
+{
+    let size = points_size(row, count);
+    write_points(&mut buffer[3..3 + size], table, row, point, count);
+    close_read_reply(buffer, unit, function, size)
 }

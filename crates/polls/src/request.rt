@@ -1,17 +1,26 @@
-// What a request asks for, document 01, "Frames": the checks in their order, and the address table row by row.
+// What a request asks for, document 01, "Frames", and document 02, L3: the checks in their order, and the address table row by row.
 ghost use mathlib.Core.Path.{_≡_};
 ghost use mathlib.Core.List.{List};
 ghost use Prim.Native.Nat.{ℕ, _≤_};
 ghost use lib.ListN.{length};
+ghost use Rattle.points.specs.Table.{rowOf};
 ghost use Rattle.archive.specs.Layout.{layoutFrom, limitOf};
-ghost use Rattle.polls.specs.Addresses.{onFile, onRegister, onRequested, recordAsked, stampAsked, registersAsked, numberAsked, readAsked, writeAsked};
+ghost use Rattle.polls.specs.Addresses.{onFile, onRegister, onRequested, functionFor, recordAsked, stampAsked, registersAsked, pointsAsked, numberAsked, liveAsked, readAsked, writeAsked};
 ghost use Rattle.polls.specs.Frames.{isKnown, asked};
 use archive::layout::file_limit;
 use basics::is_within;
 use modbus::frame::ILLEGAL_ADDRESS;
 use modbus::frame::ILLEGAL_FUNCTION;
 use modbus::frame::ILLEGAL_VALUE;
+use modbus::frame::READ;
+use modbus::frame::READ_FLAGS;
+use modbus::frame::WRITE;
 use modbus::word::word_at;
+use points::Found;
+use points::Row;
+use points::groups::ends_in_row;
+use points::table::points_size;
+use points::table::row_of;
 
 // What a request asks for once it has passed its checks, or the exception that it did not. Files and registers are counted from 0,
 // records from 1.
@@ -23,6 +32,8 @@ pub enum Asked {
     StampOnly(usize, u16),
     // the first register, and how many
     Registers(usize, usize),
+    // the row of the live table, the first point, and how many
+    LivePoints(Row, u16, u16),
     // file, and the number that is requested from now on
     SetRequested(usize, u16),
 }
@@ -31,6 +42,9 @@ pub enum Asked {
 const FIRST_REGISTER: u16 = 3701;
 
 const ALL_REGISTERS: u16 = 33;
+
+// The most bytes of data in a reply.
+const MOST_DATA: usize = 250;
 
 // Whether an address is one of a row that has one for each file, from base + 1 on.
 fn is_on_file(base: u16, address: u16) -> bool
@@ -90,6 +104,47 @@ fn ask_number(n: u16, f: usize, number: u16) -> Asked
     Asked::SetRequested(f, number)
 }
 
+// A run of points of a row of the live table.
+fn ask_points(row: Row, point: u16, quantity: u16) -> Asked
+    ensures { λ r. ⌜ r ≡ pointsAsked row point quantity ⌝ }
+{
+    if quantity == 0 {
+        return Asked::Exception(ILLEGAL_VALUE);
+    }
+    if MOST_DATA < points_size(row, quantity) {
+        return Asked::Exception(ILLEGAL_VALUE);
+    }
+    if !ends_in_row(row, point, quantity) {
+        return Asked::Exception(ILLEGAL_ADDRESS);
+    }
+    Asked::LivePoints(row, point, quantity)
+}
+
+// The function that reads a row of the live table: 01 for the Booleans, 03 for any other.
+fn function_for(row: Row) -> u8
+    ensures { λ r. ⌜ r ≡ functionFor row ⌝ }
+{
+    if row.size == 0 {
+        return READ_FLAGS;
+    }
+    READ
+}
+
+// Live points, by function 01 or 03.
+fn ask_live(function: u8, address: u16, quantity: u16) -> Asked
+    ensures { λ r. ⌜ r ≡ liveAsked function (rowOf address) address quantity ⌝ }
+{
+    match row_of(address) {
+        Found::Nowhere => Asked::Exception(ILLEGAL_ADDRESS),
+        Found::In(row) => {
+            if function == function_for(row) {
+                return ask_points(row, address, quantity);
+            }
+            Asked::Exception(ILLEGAL_ADDRESS)
+        }
+    }
+}
+
 // Function 03.
 fn ask_read(address: u16, quantity: u16, limits: &[u16], depth: u16, requested: &[u16]) -> Asked
     requires { ⌜ (length (now limits) ≡ 10) × (length (now requested) ≡ 11) ⌝ }
@@ -115,7 +170,7 @@ fn ask_read(address: u16, quantity: u16, limits: &[u16], depth: u16, requested: 
     if is_on_register(address) {
         return ask_registers(address - FIRST_REGISTER, quantity);
     }
-    Asked::Exception(ILLEGAL_ADDRESS)
+    ask_live(READ, address, quantity)
 }
 
 // Whether an address is that of a file's third register, its requested number.
@@ -140,11 +195,11 @@ fn ask_write(address: u16, value: u16, limits: &[u16], depth: u16) -> Asked
     ask_number(file_limit(limits, depth, f), f, value)
 }
 
-// Whether a function is 03 or 06.
+// Whether a function is 01, 03 or 06.
 fn is_known(function: u8) -> bool
     ensures { λ r. ⌜ r ≡ isKnown function ⌝ }
 {
-    (function == 3) | (function == 6)
+    (function == READ_FLAGS) | (function == READ) | (function == WRITE)
 }
 
 // What a frame that was heard asks for.
@@ -162,7 +217,10 @@ pub fn ask(frame: &[u8], limits: &[u16], depth: u16, requested: &[u16]) -> Asked
     }
     let address = word_at(frame, 2);
     let quantity = word_at(frame, 4);
-    if function == 3 {
+    if function == READ_FLAGS {
+        return ask_live(READ_FLAGS, address, quantity);
+    }
+    if function == READ {
         return ask_read(address, quantity, limits, depth, requested);
     }
     ask_write(address, quantity, limits, depth)

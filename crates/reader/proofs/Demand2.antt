@@ -20,7 +20,7 @@ use Rattle.basics.specs.Numbers.{within}
 use Rattle.basics.proofs.Tests.{eqb-same}
 use Rattle.basics.proofs.Lists.{length-part, part-part}
 use Rattle.modbus.specs.Crc.{withCrc, endsInCrc}
-use Rattle.modbus.specs.Frame.{readReply}
+use Rattle.modbus.specs.Frame.{readReplyBy}
 use Rattle.modbus.proofs.Laws.{framed-checks}
 use Rattle.points.specs.declared.table.Kind.{Kind}
 use Rattle.points.specs.declared.table.Kind.the-variants.{Boolean, Int16, Text8, Int32, Float, Text16}
@@ -118,20 +118,20 @@ module _ (unit size : ℕ) (d : Bool) (s : Stamp) (t gs : List ℕ)
   long = record-length d s t gs ∙ sym (judged-good gs size good .sized)
 
   reply-long : length (recordReply unit d s t gs) ≡ size + 5
-  unfolding readReply withCrc
+  unfolding readReplyBy withCrc
   reply-long = simp length-append (omega (arith, long))
 
   record-in : recordPart (recordReply unit d s t gs) size ≡ recordOf d s t gs
-  unfolding readReply withCrc
+  unfolding readReplyBy withCrc
   record-in = take-at (recordOf d s t gs) _ size long
 
   ends : endsInCrc (recordReply unit d s t gs) ≡ true
-  unfolding readReply
+  unfolding readReplyBy
   ends = framed-checks (unit ∷ 3 ∷ length (recordOf d s t gs) ∷ recordOf d s t gs)
 
   -- unit, function and byte count
   head : (getD (recordReply unit d s t gs) 0 0 ≡ unit) × (getD (recordReply unit d s t gs) 1 0 ≡ 3) × (getD (recordReply unit d s t gs) 2 0 ≡ length (recordOf d s t gs))
-  unfolding readReply withCrc
+  unfolding readReplyBy withCrc
   head = (refl, refl, refl)
 
   checks : isReply (recordReply unit d s t gs) size ≡ true

@@ -51,7 +51,7 @@ fn write_values(part: &mut [u8], table: &[u8], kind: Kind, from: usize)
 }
 
 // Writes the group of `count` points of `row` from `point` on into a part of its size.
-fn write_points(part: &mut [u8], table: &[u8], row: Row, point: u16, count: u16)
+pub fn write_points(part: &mut [u8], table: &[u8], row: Row, point: u16, count: u16)
     requires { ⌜ LentGroup (now part) (now table) (Points row) point count ⌝ }
     ensures { λ _. ⌜ now (part .exit) ≡ capturedPoints (now (table .entry)) row point count ⌝ }
 {

@@ -16,25 +16,25 @@ poll-number-requires c κs = search needs
 
 returns : tie.Need-returns
 returns c =
-    let a = c .before .before .before .before .before .before .args in
-    poll-refuses (a .s) (a .archive .now) (a .frame .now) (a .reply .now) _ (c .before .poll-number .ensures ∙ poll-number-is (a .s) (length (a .archive .now)) (length (a .reply .now)) _ (c .before .before .check .ensures .number)) (c .if1 .taken)
+    let a = c .before .before .before .before .before .before .before .args in
+    poll-refuses (a .s) (a .archive .now) (a .table .now) (a .frame .now) (a .reply .now) _ (c .before .poll-number .ensures ∙ poll-number-is (a .s) (length (a .archive .now)) (length (a .table .now)) (length (a .reply .now)) _ (c .before .before .check .ensures .number)) (c .if1 .taken)
 
 answer-requires : tie.Need-answer-requires
 answer-requires c κs =
-    let a = c .before .before .before .before .before .before .before .before .before .before .before .before .before .before .before .before .before .before .args in
+    let a = c .before .before .before .before .before .before .before .before .before .before .before .before .before .before .before .before .before .before .before .args in
     let checked = c .before .before .before .before .before .before .before .before .before .before .before .before .before .before .check .ensures in
-    let taken = sym (c .before .before .before .before .before .before .before .before .before .before .before .before .before .poll-number .ensures ∙ poll-number-is (a .s) (length (a .archive .now)) (length (a .reply .now)) _ (c .before .before .before .before .before .before .before .before .before .before .before .before .before .before .check .ensures .number)) ∙ c .before .before .before .before .before .before .before .before .before .before .before .before .if1 .left in
+    let taken = sym (c .before .before .before .before .before .before .before .before .before .before .before .before .before .poll-number .ensures ∙ poll-number-is (a .s) (length (a .archive .now)) (length (a .table .now)) (length (a .reply .now)) _ (c .before .before .before .before .before .before .before .before .before .before .before .before .before .before .check .ensures .number)) ∙ c .before .before .before .before .before .before .before .before .before .before .before .before .if1 .left in
     -- what is known of the state's line: the search for needs stops before it
-    let line = c .before .before .before .before .before .before .before .before .before .before .before .before .before .before .before .before .before .before .good .0 .1 .1 .1 .1 .1 .1 .0 in
-    let sized = checked .sized (checked .number ∙ poll-taken _ _ _ taken .0) in
-    poll-lends (a .s) (a .archive .now) (a .frame .now) (a .reply .now) _ taken sized (search needs) (search needs) (search needs) (search needs) (search (needs, line))
+    let line = c .before .before .before .before .before .before .before .before .before .before .before .before .before .before .before .before .before .before .before .good .0 .1 .1 .1 .1 .1 .1 .0 in
+    let sized = checked .sized (checked .number ∙ poll-taken _ _ _ _ taken .state) in
+    poll-lends (a .s) (a .archive .now) (a .table .now) (a .frame .now) (a .reply .now) _ taken sized (search needs) (search needs) (search needs) (search needs) (search (needs, line))
 
-cast-t14 : tie.Need-cast-t14
+cast-t15 : tie.Need-cast-t15
 unfolding pollView
-cast-t14 c =
-    let a = c .before .before .before .before .before .before .before .before .before .before .before .before .before .before .before .before .before .before .before .before .before .before .before .args in
-    let taken = sym (c .before .before .before .before .before .before .before .before .before .before .before .before .before .before .before .before .before .before .poll-number .ensures ∙ poll-number-is (a .s) (length (a .archive .now)) (length (a .reply .now)) _ (c .before .before .before .before .before .before .before .before .before .before .before .before .before .before .before .before .before .before .before .check .ensures .number)) ∙ c .before .before .before .before .before .before .before .before .before .before .before .before .before .before .before .before .before .if1 .left in
-    let short = poll-short (a .s) (a .archive .now) (a .frame .now) (a .reply .now) taken in
+cast-t15 c =
+    let a = c .before .before .before .before .before .before .before .before .before .before .before .before .before .before .before .before .before .before .before .before .before .before .before .before .args in
+    let taken = sym (c .before .before .before .before .before .before .before .before .before .before .before .before .before .before .before .before .before .before .poll-number .ensures ∙ poll-number-is (a .s) (length (a .archive .now)) (length (a .table .now)) (length (a .reply .now)) _ (c .before .before .before .before .before .before .before .before .before .before .before .before .before .before .before .before .before .before .before .check .ensures .number)) ∙ c .before .before .before .before .before .before .before .before .before .before .before .before .before .before .before .before .before .if1 .left in
+    let short = poll-short (a .s) (a .archive .now) (a .table .now) (a .frame .now) (a .reply .now) taken in
     omega (arith, short, c .before .before .before .before .answer .ensures .sent .size)
 
 same-length : tie.Need-same-length
@@ -43,9 +43,9 @@ same-length c = search needs
 returns-2 : tie.Need-returns-2
 unfolding pollView
 returns-2 c =
-    let a = c .before .before .before .before .before .before .before .before .before .before .before .before .before .before .before .before .before .before .before .before .before .before .before .args in
-    let taken = sym (c .before .before .before .before .before .before .before .before .before .before .before .before .before .before .before .before .before .before .poll-number .ensures ∙ poll-number-is (a .s) (length (a .archive .now)) (length (a .reply .now)) _ (c .before .before .before .before .before .before .before .before .before .before .before .before .before .before .before .before .before .before .before .check .ensures .number)) ∙ c .before .before .before .before .before .before .before .before .before .before .before .before .before .before .before .before .before .if1 .left in
-    poll-done (a .s) (a .archive .now) (a .frame .now) (a .reply .now) _ _ _ taken (c .before .before .before .before .answer .ensures)
+    let a = c .before .before .before .before .before .before .before .before .before .before .before .before .before .before .before .before .before .before .before .before .before .before .before .before .args in
+    let taken = sym (c .before .before .before .before .before .before .before .before .before .before .before .before .before .before .before .before .before .before .poll-number .ensures ∙ poll-number-is (a .s) (length (a .archive .now)) (length (a .table .now)) (length (a .reply .now)) _ (c .before .before .before .before .before .before .before .before .before .before .before .before .before .before .before .before .before .before .before .check .ensures .number)) ∙ c .before .before .before .before .before .before .before .before .before .before .before .before .before .before .before .before .before .if1 .left in
+    poll-done (a .s) (a .archive .now) (a .table .now) (a .frame .now) (a .reply .now) _ _ _ taken (c .before .before .before .before .answer .ensures)
 
 pub windrow-gateway-poll-spec : {M : Type 1} → statement M
 windrow-gateway-poll-spec =
@@ -55,6 +55,6 @@ windrow-gateway-poll-spec =
     poll-number-requires
     returns
     answer-requires
-    cast-t14
+    cast-t15
     same-length
     returns-2)

@@ -8,7 +8,7 @@ use lib.ListN.{length, take, drop, length-set}
 use Rattle.basics.specs.Lists.{pasted}
 use Rattle.basics.proofs.Lists.{length-part}
 use Rattle.modbus.specs.Crc.{withCrc}
-use Rattle.modbus.specs.Frame.{readReply}
+use Rattle.modbus.specs.Frame.{readReplyBy}
 use Rattle.modbus.proofs.Laws.{length-framed, header-closed}
 use Rattle.modbus.proofs.frame.close_read_reply.Statement.{statement}
 use Rattle.modbus.proofs.frame.close_read_reply.Tie as tie
@@ -38,17 +38,18 @@ same-length : tie.Need-same-length
 same-length c = c .before .buffer .given ∙ simp length-set
 
 returns : tie.Need-returns
-unfolding readReply
+unfolding readReplyBy
 returns c =
     let start = c .before .before .before .before .before in
     let b = start .args .buffer .now in
     let unit = start .args .unit in
+    let function = start .args .function in
     let size = start .args .size in
     let long : length (take size (drop 3 b)) ≡ size = length-part b 3 size (omega arith) in
     record {
       size = sym (length-framed _ ∙ omega (arith, long));
-      left = c .before .before .write-crc .ensures ∙ header-closed b unit 3 size size (size + 3) (omega arith) refl
-          ∙ ap (λ n. pasted b 0 (withCrc (unit ∷ 3 ∷ n ∷ take size (drop 3 b)))) (sym long);
+      left = c .before .before .write-crc .ensures ∙ header-closed b unit function size size (size + 3) (omega arith) refl
+          ∙ ap (λ n. pasted b 0 (withCrc (unit ∷ function ∷ n ∷ take size (drop 3 b)))) (sym long);
     }
 
 pub close-read-reply-spec : {M : Type 1} → statement M

@@ -19,6 +19,9 @@ enum-told-3 c = search needs
 enum-told-4 : tie.Need-enum-told-4
 enum-told-4 c = search needs
 
+enum-told-5 : tie.Need-enum-told-5
+enum-told-5 c = search needs
+
 enum-known-asked : tie.Need-enum-known-asked
 enum-known-asked c = search needs
 
@@ -41,7 +44,10 @@ returns-4 : tie.Need-returns-4
 returns-4 c = search needs
 
 returns-5 : tie.Need-returns-5
-returns-5 c = ap (λ x. requestedBy x (c .before .before .before .args .requested)) (sym (c .before .asked .given .1))
+returns-5 c = search needs
+
+returns-6 : tie.Need-returns-6
+returns-6 c = ap (λ x. requestedBy x (c .before .before .before .args .requested)) (sym (c .before .asked .given .1))
 
 pub requested-by-spec : {M : Type 1} → statement M
 requested-by-spec =
@@ -51,6 +57,7 @@ requested-by-spec =
     enum-told-2
     enum-told-3
     enum-told-4
+    enum-told-5
     enum-known-asked
     mul-numbers
     array-write-numbers
@@ -58,4 +65,5 @@ requested-by-spec =
     returns-2
     returns-3
     returns-4
-    returns-5)
+    returns-5
+    returns-6)

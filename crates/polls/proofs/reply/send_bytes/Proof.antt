@@ -1,14 +1,11 @@
 -- `reply::send_bytes` meets its contract. Assumes nothing.
-use mathlib.Core.Path.{_≡_, ap, _∙_, subst}
-use mathlib.Core.List.{_++_}
+use mathlib.Core.Path.{_≡_, ap, _∙_}
 use Prim.Native.Nat.{_+_, _-_}
 use native.Mathlib.Omega.{arith}
 use borrow.Author.Needs.{needs}
 use lib.ListN.{take, drop}
-use Rattle.basics.specs.Lists.{pasted}
-use Rattle.basics.proofs.Lists.{length-part, part-back}
-use Rattle.modbus.specs.Frame.{readReply, Sent}
-use Rattle.modbus.proofs.Laws.{closed-over}
+use Rattle.basics.proofs.Lists.{length-part}
+use Rattle.modbus.proofs.Laws.{closed-part}
 use Rattle.polls.proofs.reply.send_bytes.Statement.{statement}
 use Rattle.polls.proofs.reply.send_bytes.Tie as tie
 
@@ -48,18 +45,12 @@ same-length c = search needs
 returns : tie.Need-returns
 returns c =
     let a = c .before .before .before .before .before .before .before .before .before .before .before .args in
-    let b = a .buffer .now in
-    let bytes = take (a .size) (drop (a .at) (a .archive .now)) in
     let copy = c .before .before .before .before .before .before .copy-bytes in
     let close = c .before .before .close-read-reply in
     let from : a .at + a .size - a .at ≡ a .size = omega arith in
-    let to : a .size ≡ 3 + a .size - 3 = omega arith in
-    let long = length-part (a .archive .now) (a .at) (a .size) (omega arith) in
-    let back : take 3 b ++ (copy .last .0 ++ drop (3 + a .size - 3) (drop 3 b)) ≡ pasted b 3 bytes
-    = ap (λ w. take 3 b ++ (w ++ drop (3 + a .size - 3) (drop 3 b))) (copy .ensures ∙ ap (λ n. take n (drop (a .at) (a .archive .now))) from)
-    ∙ part-back b bytes 3 (3 + a .size - 3) (long ∙ to) in
-    closed-over b bytes _ (a .unit) (a .size) _ long (omega arith)
-    (subst (λ x. Sent (readReply (a .unit) (take (a .size) (drop 3 x))) x (close .result) (close .last .0)) back (close .ensures))
+    closed-part (a .buffer .now) (copy .last .0) (take (a .size) (drop (a .at) (a .archive .now))) (close .last .0) (a .unit) 3 (a .size)
+    (close .result) (copy .ensures ∙ ap (λ n. take n (drop (a .at) (a .archive .now))) from)
+    (length-part (a .archive .now) (a .at) (a .size) (omega arith)) (omega arith) (close .ensures)
 
 pub send-bytes-spec : {M : Type 1} → statement M
 send-bytes-spec =

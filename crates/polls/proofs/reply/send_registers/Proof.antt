@@ -68,7 +68,7 @@ returns c =
     let at = c .before .before .before .before .before .loop in
     let close = c .before .before .close-read-reply in
     let all : at .i ≡ a .count = omega arith in
-    closed-over (a .buffer .now) (registerBytes (registerView (a .limits .now) (a .depth) (a .pointers .now) (a .requested .now)) (a .first) (a .count)) _ (a .unit) (2 * a .count) _ (length-registers (registerView (a .limits .now) (a .depth) (a .pointers .now) (a .requested .now)) (a .first) (a .count)) (omega arith)
+    closed-over (a .buffer .now) (registerBytes (registerView (a .limits .now) (a .depth) (a .pointers .now) (a .requested .now)) (a .first) (a .count)) _ (a .unit) 3 (2 * a .count) _ (length-registers (registerView (a .limits .now) (a .depth) (a .pointers .now) (a .requested .now)) (a .first) (a .count)) (omega arith)
     (subst (λ x. Sent (readReply (a .unit) (take (2 * a .count) (drop 3 x))) x (close .result) (close .last .0))
     (at .inv .2 ∙ ap (λ n. pasted (a .buffer .now) 3 (registerBytes (registerView (a .limits .now) (a .depth) (a .pointers .now) (a .requested .now)) (a .first) n)) all) (close .ensures))
 

@@ -124,10 +124,13 @@ unfolding readAsked
 returns-5 c = λ groups.
     simp (sym (c .before .before .before .before .before .before .before .before .before .before .is-on-file .ensures) ∙ c .before .before .before .before .before .before .before .before .before .if1 .left, sym (c .before .before .before .before .before .before .before .before .is-on-file2 .ensures) ∙ c .before .before .before .before .before .before .before .if2 .left, sym (c .before .before .before .before .before .before .is-on-file3 .ensures) ∙ c .before .before .before .before .before .if3 .left, sym (c .before .before .before .before .is-on-file4 .ensures) ∙ c .before .before .before .if4 .left, sym (c .before .before .is-on-register .ensures) ∙ c .before .if5 .taken) (c .ask-registers .ensures)
 
+ask-live-requires : tie.Need-ask-live-requires
+ask-live-requires c κs = search needs
+
 returns-6 : tie.Need-returns-6
 unfolding readAsked
 returns-6 c = λ groups.
-    simp (sym (c .before .before .before .before .before .before .before .before .before .is-on-file .ensures) ∙ c .before .before .before .before .before .before .before .before .if1 .left, sym (c .before .before .before .before .before .before .before .is-on-file2 .ensures) ∙ c .before .before .before .before .before .before .if2 .left, sym (c .before .before .before .before .before .is-on-file3 .ensures) ∙ c .before .before .before .before .if3 .left, sym (c .before .before .before .is-on-file4 .ensures) ∙ c .before .before .if4 .left, sym (c .before .is-on-register .ensures) ∙ c .if5 .left)
+    simp (sym (c .before .before .before .before .before .before .before .before .before .before .is-on-file .ensures) ∙ c .before .before .before .before .before .before .before .before .before .if1 .left, sym (c .before .before .before .before .before .before .before .before .is-on-file2 .ensures) ∙ c .before .before .before .before .before .before .before .if2 .left, sym (c .before .before .before .before .before .before .is-on-file3 .ensures) ∙ c .before .before .before .before .before .if3 .left, sym (c .before .before .before .before .is-on-file4 .ensures) ∙ c .before .before .before .if4 .left, sym (c .before .before .is-on-register .ensures) ∙ c .before .if5 .left) (c .ask-live .ensures)
 
 pub ask-read-spec : {M : Type 1} → statement M
 ask-read-spec =
@@ -165,4 +168,5 @@ ask-read-spec =
     sub-ask-registers
     ask-registers-requires
     returns-5
+    ask-live-requires
     returns-6)
