@@ -6,6 +6,7 @@
 use std::hint::black_box;
 
 use ::gateway::ffi::{self, State};
+use ::gateway::tables::Table;
 use model::frames::request;
 use reader::random::Random;
 
@@ -17,28 +18,30 @@ const UNIT: u8 = 1;
 const ROOM: usize = 256;
 
 /// Both sides give the same answer, state and bytes: this number and a reply of this length.
-fn agree(s: State, archive: &mut [u8], frame: &mut [u8], room: usize, wanted: (u32, u32)) {
+fn agree(s: State, archive: &mut [u8], table: &mut [u8], frame: &mut [u8], room: usize, wanted: (u32, u32)) {
     let (mut reply, mut plain_reply) = (vec![0xAA; room], vec![0xAA; room]);
-    let proved = ffi::poll(s, archive, frame, &mut reply);
+    let proved = ffi::poll(s, archive, table, frame, &mut reply);
     let mut after = s;
-    let plain = expert_poll(&mut after, archive, frame, &mut plain_reply);
+    let plain = expert_poll(&mut after, archive, table, frame, &mut plain_reply);
     assert_eq!(((proved.number, proved.length), plain), (wanted, wanted));
     assert_eq!(proved.state, after, "the two polls left different states");
     assert!(reply == plain_reply, "the two polls wrote different replies");
 }
 
 fn times(mut s: State, frame: &mut [u8], room: usize, wanted: (u32, u32)) -> Times {
-    let mut archive = Random::new(3).bytes(ARCHIVE);
-    agree(s, &mut archive, frame, room, wanted);
+    let (mut archive, Table(mut table)) = (Random::new(3).bytes(ARCHIVE), Table::patterned());
+    agree(s, &mut archive, &mut table, frame, room, wanted);
     let mut reply = vec![0; room];
     let proved = best(|| {
         for _ in 0..CALLS {
-            black_box(ffi::poll(black_box(s), black_box(&mut archive), black_box(frame), black_box(&mut reply)));
+            let (archive, table) = (black_box(&mut archive), black_box(&mut table));
+            black_box(ffi::poll(black_box(s), archive, table, black_box(frame), black_box(&mut reply)));
         }
     });
     let plain = best(|| {
         for _ in 0..CALLS {
-            black_box(expert_poll(black_box(&mut s), black_box(&archive), black_box(frame), black_box(&mut reply)));
+            let (archive, table) = (black_box(&archive), black_box(&table));
+            black_box(expert_poll(black_box(&mut s), archive, table, black_box(frame), black_box(&mut reply)));
         }
     });
     Times { proved, plain }
@@ -60,6 +63,8 @@ pub fn polls(lock: &Times) {
         ("a poll of a 250-byte record requested", request(UNIT, 3, 710, 0), 255),
         ("a poll of 33 registers", request(UNIT, 3, 3701, 33), 71),
         ("a 06", request(UNIT, 6, 3730, 7), 8),
+        ("a poll of 62 live floats", request(UNIT, 3, 7101, 62), 253),
+        ("a poll of 127 live Booleans from 1802", request(UNIT, 1, 1802, 127), 21),
     ];
     for (name, mut frame, length) in rows {
         let whole = times(s, &mut frame, ROOM, (0, length));

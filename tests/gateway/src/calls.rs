@@ -3,6 +3,7 @@
 use gateway::ffi::{self, Answer, PollAnswer, State};
 use gateway::frames::{any_frame, any_room, Frame};
 use gateway::states::{any_groups, boolean_or_none, definitions_of, float_or_none, limit_near, no_boolean, no_float};
+use gateway::tables::Table;
 use model::card::Answer as Told;
 use model::foreign::slot_entry_is_good;
 use model::frames::request;
@@ -12,7 +13,7 @@ use model::record::Stamp;
 use reader::random::Random;
 
 use crate::lent::{Buffer, Lent};
-use crate::scans::{self, Table};
+use crate::scans;
 
 #[derive(Clone, Debug, PartialEq, Eq)]
 pub enum Call {
@@ -41,6 +42,7 @@ pub enum Call {
     },
     /// `room` is the reply buffer's length.
     Poll {
+        table: Table,
         frame: Frame,
         room: usize,
     },
@@ -151,12 +153,17 @@ impl Call {
 
     /// A poll of a gateway in this state.
     pub fn poll(random: &mut Random, s: &State) -> Call {
-        Call::Poll { frame: any_frame(random, s), room: any_room(random) }
+        Call::Poll { table: Table::random(random), frame: any_frame(random, s), room: any_room(random) }
     }
 
-    /// The poll of a right request, with as short a reply buffer as may be.
+    /// The poll of a frame over a patterned table, with as short a reply buffer as may be.
+    pub fn sending(frame: Vec<u8>) -> Call {
+        Call::Poll { table: Table::patterned(), frame: Frame(frame), room: LEAST_REPLY }
+    }
+
+    /// The same of a right request.
     pub fn asking(unit: u8, function: u8, address: u16, number: u16) -> Call {
-        Call::Poll { frame: Frame(request(unit, function, address, number)), room: LEAST_REPLY }
+        Call::sending(request(unit, function, address, number))
     }
 
     /// The call's place in NAMES.
@@ -211,14 +218,14 @@ impl Call {
             Call::Trigger { file, point } => ffi::trigger(s, archive, *file, *point).into(),
             Call::Alarm { slot, point, kind, transducer } => ffi::alarm(s, archive, *slot, *point, *kind, *transducer).into(),
             Call::Scan { table, stamp } => ffi::scan(s, archive, &mut table.0, (*stamp).into()).into(),
-            Call::Poll { frame, .. } => ffi::poll(s, archive, &mut frame.0, lent.reply.lent_mut()).into(),
+            Call::Poll { table, frame, .. } => ffi::poll(s, archive, &mut table.0, &mut frame.0, lent.reply.lent_mut()).into(),
         }
     }
 
     /// What the model answers, with the length of a poll's reply.
     pub fn on_model(&self, machine: &mut Machine, archive_len: usize, reply: &mut Buffer) -> (Told, usize) {
         let told = match self {
-            Call::Poll { frame, .. } => return machine.poll(archive_len, &frame.0, reply.lent_mut()),
+            Call::Poll { table, frame, .. } => return machine.poll(archive_len, &table.0, &frame.0, reply.lent_mut()),
             Call::Unlock => machine.unlock(archive_len),
             Call::Lock => machine.lock(archive_len),
             Call::Stop => machine.stop(archive_len),

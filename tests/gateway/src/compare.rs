@@ -47,15 +47,19 @@ pub fn wanted_of_state(s: &State, call: &Call, lent: &Lent) -> Wanted {
     }
 }
 
-/// Hands a call to the library: what it answers and leaves is as wanted, and what it was lent only to read is as it was; else what
-/// differs.
+/// Hands a call to the library: what it answers and leaves is as wanted, what it was lent only to read is as it was, and so is all
+/// else where the call is refused; else what differs.
 pub fn agree(wanted: &Wanted, s: &State, call: &Call, lent: &Lent) -> Result<(), String> {
     let (mut handed_in, mut left) = (call.clone(), lent.clone());
     let got = handed_in.on_library(*s, &mut left);
     if handed_in != *call {
         return Err(format!("what is only read was changed, to {handed_in:?}"));
     }
-    compare(wanted, &got, &left)
+    compare(wanted, &got, &left)?;
+    if got.number != 0 && (got.state != *s || left != *lent) {
+        return Err(format!("refused with {}, and yet the state or what was lent was changed, on both sides", got.number));
+    }
+    Ok(())
 }
 
 /// The answer, the state and the bytes are those wanted; else what differs.

@@ -1,13 +1,14 @@
 //! A file of 65,535 records, filled from its first record to its last and then over its first, with polls on the way.
 
 use gateway::rows::{requested_register, RECORD_ROWS};
+use gateway::tables::Table;
 use model::machine::{BOOLEAN_BYTES, LEAST_ARCHIVE};
 use model::points::{STAMP_BYTES, TABLE_BYTES};
 use reader::random::{stamp, Random};
 
 use crate::calls::Call;
 use crate::lists::{List, NEVER};
-use crate::scans::{bit, Table};
+use crate::scans::bit;
 use crate::tally::Tally;
 
 const DEPTH: u16 = 65_535;

@@ -115,6 +115,8 @@ extern "C" {
         s: State,
         archive: *const u8,
         len: usize,
+        table: *const u8,
+        table_len: usize,
         frame: *const u8,
         frame_len: usize,
         reply: *mut u8,
@@ -161,8 +163,9 @@ pub fn scan(s: State, archive: &mut [u8], table: &mut [u8], stamp: Stamp) -> Ans
     unsafe { windrow_gateway_scan(s, archive.as_mut_ptr(), archive.len(), table.as_mut_ptr(), table.len(), stamp) }
 }
 
-pub fn poll(s: State, archive: &mut [u8], frame: &mut [u8], reply: &mut [u8]) -> PollAnswer {
-    let (archive_len, frame_len, reply_len) = (archive.len(), frame.len(), reply.len());
-    let (archive, frame, reply) = (archive.as_mut_ptr(), frame.as_mut_ptr(), reply.as_mut_ptr());
-    unsafe { windrow_gateway_poll(s, archive, archive_len, frame, frame_len, reply, reply_len) }
+pub fn poll(s: State, archive: &mut [u8], table: &mut [u8], frame: &mut [u8], reply: &mut [u8]) -> PollAnswer {
+    let (archive_len, table_len, frame_len, reply_len) = (archive.len(), table.len(), frame.len(), reply.len());
+    let (archive, table) = (archive.as_mut_ptr(), table.as_mut_ptr());
+    let (frame, reply) = (frame.as_mut_ptr(), reply.as_mut_ptr());
+    unsafe { windrow_gateway_poll(s, archive, archive_len, table, table_len, frame, frame_len, reply, reply_len) }
 }

@@ -1,5 +1,5 @@
-//! Random frames for a poll: on every row of the address table and beside it, with numbers about what a state's files hold, and
-//! with all that can be wrong with a frame; lengths of reply buffers.
+//! Random frames for a poll: on every row of the address table and of the live table and beside it, with numbers about what a
+//! state's files and the rows hold, and with all that can be wrong with a frame; lengths of reply buffers.
 
 use std::fmt;
 
@@ -10,6 +10,7 @@ use model::machine::{FIRST_REGISTER, LAST_REGISTER, LEAST_REPLY};
 use reader::random::Random;
 
 use crate::ffi::State;
+use crate::live::any_run;
 use crate::rows::{limit_of, requested_register, RECORD_ROWS};
 
 /// A frame as it is lent, of any length.
@@ -61,11 +62,14 @@ fn unit(random: &mut Random, s: &State) -> u8 {
 
 /// Function, address, and quantity or value.
 fn asked(random: &mut Random, s: &State) -> (u8, u16, u16) {
-    match random.below(32) {
-        0 | 1 => (other_function(random), record_address(random, s).0, 1),
-        2 => (one_of(random, &[3, 6]), random.next() as u16, random.below(4) as u16),
-        3..=9 => registers(random),
-        10..=16 => set_requested(random, s),
+    match random.below(48) {
+        0 => (other_function(random), record_address(random, s).0, 1),
+        1 => (one_of(random, &[1, 3, 6]), random.next() as u16, random.below(4) as u16),
+        2 => (1, record_address(random, s).0, random.below(4) as u16),
+        3 => live_point_by_another_function(random),
+        4..=18 => any_run(random),
+        19..=25 => registers(random),
+        26..=32 => set_requested(random, s),
         _ => {
             let (address, file) = record_address(random, s);
             (3, address, record_number(random, s, file))
@@ -74,13 +78,19 @@ fn asked(random: &mut Random, s: &State) -> (u8, u16, u16) {
 }
 
 fn other_function(random: &mut Random) -> u8 {
-    const OTHERS: [u8; 14] = [0, 1, 2, 4, 5, 7, 8, 15, 16, 0x80, 0x81, 0x83, 0x86, 0xFF];
+    const OTHERS: [u8; 13] = [0, 2, 4, 5, 7, 8, 15, 16, 0x80, 0x81, 0x83, 0x86, 0xFF];
     let function = if random.chance(3) { random.next() as u8 } else { one_of(random, &OTHERS) };
-    if [3, 6].contains(&function) {
-        1
+    if [1, 3, 6].contains(&function) {
+        2
     } else {
         function
     }
+}
+
+/// A live point, or one beside a row, by a 06 or by a function that is not known.
+fn live_point_by_another_function(random: &mut Random) -> (u8, u16, u16) {
+    let function = if random.chance(2) { 6 } else { other_function(random) };
+    (function, any_run(random).1, random.below(4) as u16)
 }
 
 /// Mostly a file that has records; now and then an idle one, or 0 or 12, which are beside a row.

@@ -1,17 +1,19 @@
-//! Polls in turn on one gateway: every address, run of registers, record, length of frame, function, unit and length of reply
-//! buffer, and frames with each bit wrong.
+//! Polls in turn on one gateway: every address, run of registers, run of live points, record, length of frame, function, unit, length
+//! of live table and length of reply buffer, and frames with each bit wrong.
 
 use gateway::frames::{resized, Frame};
 use gateway::rows::{limit_of, requested_register, RECORD_ROWS};
 use gateway::states::good_groups;
-use model::frames::request;
+use gateway::tables::Table;
+use model::frames::{request, READ, READ_BOOLEANS, WRITE};
 use model::layout::{ALARM_FILE, USER_FILES};
-use model::machine::{FIRST_REGISTER, LAST_REGISTER, LEAST_ARCHIVE, LEAST_REPLY};
+use model::machine::{FIRST_REGISTER, LAST_REGISTER, LEAST_ARCHIVE};
 use model::points::LONGEST_RECORD;
 use reader::random::Random;
 
 use crate::calls::Call;
 use crate::lists::{List, NEVER};
+use crate::live_in_turn::{self, lengths_of_tables, runs};
 use crate::tally::Tally;
 
 /// The n of files 1 to 10.
@@ -19,8 +21,6 @@ const LIMITS: [u16; USER_FILES] = [3, 1, 0, 2, 9, 5, 4, 7, 6, 8];
 const ARCHIVE: usize = LEAST_ARCHIVE + 45 * LONGEST_RECORD;
 const UNIT: u8 = 17;
 const SCANS: usize = 400;
-const READ: u8 = 3;
-const WRITE: u8 = 6;
 
 /// A running gateway whose files have all gone round, but for the idle one and the alarm file.
 fn prepared(random: &mut Random, tally: &mut Tally) -> Result<List, String> {
@@ -48,7 +48,7 @@ fn prepared(random: &mut Random, tally: &mut Tally) -> Result<List, String> {
 /// Every address with 0, a number that most files have, one that few have, and one that none has.
 fn addresses() -> impl Iterator<Item = Call> {
     (0..=u16::MAX).flat_map(|address| {
-        [READ, WRITE]
+        [READ_BOOLEANS, READ, WRITE]
             .into_iter()
             .flat_map(move |function| [0, 1, 3, 9, u16::MAX].map(|number| Call::asking(UNIT, function, address, number)))
     })
@@ -71,16 +71,31 @@ fn records(list: &List) -> Vec<Call> {
     polls
 }
 
-/// The frames that lengths, units, bits and reply buffers are tried on: a read and a 06 that are answered, the same on an unknown
-/// address, and two other functions.
-fn samples(unit: u8, number: u16) -> [Vec<u8>; 6] {
+/// The frames that lengths, units, bits, live tables and reply buffers are tried on: a read, a 06 and reads of live points that are
+/// answered, the same on an address that is unknown or the other read's, and two other functions.
+fn samples(unit: u8, number: u16) -> [Vec<u8>; 10] {
     let register = requested_register(1);
-    [(READ, 721), (WRITE, register), (READ, 0), (WRITE, 0), (1, 721), (0x86, register)]
-        .map(|(function, address)| request(unit, function, address, number))
+    let asked = [
+        (READ, 721),
+        (WRITE, register),
+        (READ_BOOLEANS, 1803),
+        (READ, 7102),
+        (READ, 0),
+        (WRITE, 0),
+        (READ_BOOLEANS, 7102),
+        (READ, 1803),
+        (2, 721),
+        (0x86, register),
+    ];
+    asked.map(|(function, address)| request(unit, function, address, number))
 }
 
-fn poll(frame: Vec<u8>) -> Call {
-    Call::Poll { frame: Frame(frame), room: LEAST_REPLY }
+/// Frames without a reply: one of no bytes, one with a wrong CRC, a 06 to unit 0 and a read of another unit.
+fn unanswered(number: u16) -> [Vec<u8>; 4] {
+    let read = request(UNIT, READ, 721, number);
+    let wrong_crc = [&read[..6], &[0, 0]].concat();
+    let (broadcast, other) = (request(0, WRITE, requested_register(1), number), request(UNIT + 1, READ, 721, number));
+    [vec![], wrong_crc, broadcast, other]
 }
 
 fn lengths() -> impl Iterator<Item = Call> {
@@ -88,18 +103,17 @@ fn lengths() -> impl Iterator<Item = Call> {
     [(UNIT, 1), (0, 2), (UNIT + 1, 3)]
         .into_iter()
         .flat_map(|(unit, number)| samples(unit, number))
-        .flat_map(|sample| (0..=300).map(move |length| poll(resized(&sample, length, |more| vec![0; more]))))
+        .flat_map(|sample| (0..=300).map(move |length| Call::sending(resized(&sample, length, |more| vec![0; more]))))
 }
 
 fn functions() -> impl Iterator<Item = Call> {
-    (0..=255).flat_map(|function| {
-        let right = request(UNIT, function, 721, 2);
-        [4, 7, 8, 9, 256].map(|length| poll(resized(&right, length, |more| vec![0; more])))
-    })
+    (0..=255)
+        .flat_map(|function| [721, 1803, 3002].map(|address| request(UNIT, function, address, 2)))
+        .flat_map(|right| [4, 7, 8, 9, 256].map(|length| Call::sending(resized(&right, length, |more| vec![0; more]))))
 }
 
 fn units() -> impl Iterator<Item = Call> {
-    (0..=255).flat_map(|unit| samples(unit, 1 + u16::from(unit % 3))).map(poll)
+    (0..=255).flat_map(|unit| samples(unit, 1 + u16::from(unit % 3))).map(Call::sending)
 }
 
 fn wrong_bits() -> impl Iterator<Item = Call> {
@@ -107,16 +121,19 @@ fn wrong_bits() -> impl Iterator<Item = Call> {
         (0..8 * sample.len()).map(move |bit| {
             let mut frame = sample.clone();
             frame[bit / 8] ^= 1 << (bit % 8);
-            poll(frame)
+            Call::sending(frame)
         })
     })
 }
 
 fn rooms() -> impl Iterator<Item = Call> {
-    (0..=300).flat_map(|room| samples(UNIT, 1 + room as u16 % 3).map(|frame| Call::Poll { frame: Frame(frame), room }))
+    (0..=300).flat_map(|room| {
+        samples(UNIT, 1 + room as u16 % 3).map(|frame| Call::Poll { table: Table::patterned(), frame: Frame(frame), room })
+    })
 }
 
-/// The polls count in a tally of their own: that the random lists see everything must not rest on them.
+/// The polls count in a tally of their own: that the random lists see everything must not rest on them. They too see all that polls
+/// of the live table can show.
 pub fn polls_in_turn(random: &mut Random, tally: &mut Tally) -> Result<(), String> {
     let mut own = Tally::default();
     let mut list = prepared(random, &mut own)?;
@@ -125,10 +142,16 @@ pub fn polls_in_turn(random: &mut Random, tally: &mut Tally) -> Result<(), Strin
         return Err(format!("file {} of the gateway has not gone round", file + 1));
     }
     let records = records(&list);
+    let sent: Vec<Vec<u8>> = samples(UNIT, 2).into_iter().chain(unanswered(3)).collect();
+    let live = runs(UNIT).chain(live_in_turn::units()).chain(lengths_of_tables(&sent));
     let others = registers().chain(lengths()).chain(functions()).chain(units()).chain(wrong_bits()).chain(rooms());
-    for poll in records.into_iter().chain(others).chain(addresses()) {
+    for poll in records.into_iter().chain(live).chain(others).chain(addresses()) {
         list.call(random, &mut own, &poll, NEVER)?;
         tally.polls_in_turn += 1;
+    }
+    let unseen = own.polls.live.unseen();
+    if !unseen.is_empty() {
+        return Err(format!("in turn no poll has shown: {}", unseen.join("; ")));
     }
     list.end()
 }

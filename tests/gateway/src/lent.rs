@@ -6,7 +6,7 @@ use reader::random::Random;
 pub const MARGIN: usize = 32;
 
 /// A reply buffer of random bytes, between margins that are compared as well: a byte written where it should not be is seen.
-#[derive(Clone)]
+#[derive(Clone, PartialEq, Eq)]
 pub struct Buffer(Vec<u8>);
 
 impl Buffer {
@@ -33,7 +33,7 @@ impl Buffer {
     }
 }
 
-#[derive(Clone)]
+#[derive(Clone, PartialEq, Eq)]
 pub struct Lent {
     pub archive: Vec<u8>,
     /// Of 0 bytes for every call but a poll.

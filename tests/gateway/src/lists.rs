@@ -133,9 +133,9 @@ impl List {
         let (before, history) = (&self.state, &self.history);
         match call {
             Call::Scan { table, stamp } => tally.scanned(&Sight::new(before, &table.0, *stamp, *captured, history)),
-            Call::Poll { frame, room } => {
-                let (frame, reply) = (&frame.0, wanted.reply());
-                tally.polls.polled(&PollSight { before, after: &wanted.state, frame, room: *room, reply, history });
+            Call::Poll { table, frame, room } => {
+                let (table, frame, reply) = (&table.0, &frame.0, wanted.reply());
+                tally.polls.polled(&PollSight { before, after: &wanted.state, table, frame, room: *room, reply, history });
                 self.origins.read_back(&mut tally.polls.read_back, before, frame, reply)?;
             }
             _ => {}

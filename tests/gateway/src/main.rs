@@ -4,9 +4,10 @@
 //!     gateway [SEED [SHORT [LONG [DEEP [IN_TURN]]]]]
 //!
 //! The numbers say how many lists of each kind there are: short ones of calls of every kind; long ones that are mostly scans and
-//! polls; one that fills a file of 65,535 records; polls of every address and more, in turn. Some lists start with Fresh, others
-//! from a random state that is not Foreign over random bytes. Between the calls of short and long ones, damaged copies of the state
-//! are handed in. List i of each kind is made from SEED + i, so `gateway SEED+i 1 0 0 0` repeats a short one alone.
+//! polls; one that fills a file of 65,535 records; polls of every address, every run of live points and more, in turn. Some lists
+//! start with Fresh, others from a random state that is not Foreign over random bytes. Between the calls of short and long ones,
+//! damaged copies of the state are handed in. List i of each kind is made from SEED + i, so `gateway SEED+i 1 0 0 0` repeats a short
+//! one alone.
 
 mod calls;
 mod compare;
@@ -14,10 +15,13 @@ mod deep;
 mod in_turn;
 mod lent;
 mod lists;
+mod live_in_turn;
+mod live_sights;
 mod long;
 mod origins;
 mod poll_sights;
 mod poll_tally;
+mod refused_sights;
 mod scans;
 mod sights;
 mod tally;

@@ -1,22 +1,24 @@
-//! What polls that were not refused were seen to do, counted, so that a run shows that no rule of frames was left out.
+//! What polls that were not refused were seen to do, counted, so that a run shows that no rule of frames was left out. Those of polls
+//! of the live table are in `live_sights`.
 
 use gateway::ffi::State;
+use gateway::live::Run;
 use gateway::rows::{is_read_reply, limit_of, Asked, Request, Row};
 use model::crc;
-use model::frames::{ILLEGAL_ADDRESS, ILLEGAL_FUNCTION, ILLEGAL_VALUE};
+use model::frames::{ILLEGAL_ADDRESS, ILLEGAL_FUNCTION, ILLEGAL_VALUE, READ, READ_BOOLEANS, WRITE};
 use model::machine::{FIRST_REGISTER, LAST_REGISTER, LEAST_REPLY};
 
+use crate::scans::booleans;
 use crate::sights::History;
 
-const READ: u8 = 3;
-const WRITE: u8 = 6;
 /// The addresses on either side of each row.
 const BESIDE_ROWS: [u16; 10] = [700, 712, 720, 732, 750, 762, 770, 782, FIRST_REGISTER - 1, LAST_REGISTER + 1];
 
-/// A poll that was not refused: the states before and after, the frame, the reply buffer's length, and the reply.
+/// A poll that was not refused: the states before and after, the live table, the frame, the reply buffer's length, and the reply.
 pub struct PollSight<'a> {
     pub before: &'a State,
     pub after: &'a State,
+    pub table: &'a [u8],
     pub frame: &'a [u8],
     pub room: usize,
     pub reply: &'a [u8],
@@ -25,7 +27,7 @@ pub struct PollSight<'a> {
 
 impl PollSight<'_> {
     /// Whether the frame's first byte is this unit and its CRC is right.
-    fn is_to(&self, unit: u8) -> bool {
+    pub fn is_to(&self, unit: u8) -> bool {
         self.frame.first() == Some(&unit) && crc::checks(self.frame)
     }
 
@@ -38,7 +40,7 @@ impl PollSight<'_> {
     }
 
     /// Whether a frame of a good length has a right CRC and another unit of this range.
-    fn is_to_others(&self, units: std::ops::RangeInclusive<u8>) -> bool {
+    pub fn is_to_others(&self, units: std::ops::RangeInclusive<u8>) -> bool {
         let other = |unit: &u8| *unit != self.before.site.unit && units.contains(unit);
         self.is_of_a_good_length() && self.frame.first().is_some_and(other) && crc::checks(self.frame)
     }
@@ -60,6 +62,31 @@ impl PollSight<'_> {
         self.request()?.row().map(|(row, _)| row)
     }
 
+    /// The run of live points that is asked for, whoever is asked.
+    pub fn run(&self) -> Option<Run> {
+        Run::of(&self.request()?)
+    }
+
+    /// Whether a request's address is none that its function knows.
+    fn is_on_an_unknown_address(&self) -> bool {
+        self.request().is_some_and(|request| !request.is_known())
+    }
+
+    /// Whether a frame of over 8 bytes has such an address.
+    pub fn begins_on_an_unknown_address(&self) -> bool {
+        self.frame.len() > 8 && Request::of(&self.frame[..8]).is_some_and(|request| !request.is_known())
+    }
+
+    /// Whether the number of a request is this one.
+    pub fn asks_for(&self, number: u16) -> bool {
+        self.request().is_some_and(|request| request.number == number)
+    }
+
+    /// Whether the reply carries live points.
+    pub fn is_live_reply(&self) -> bool {
+        is_read_reply(self.reply) && self.run().is_some()
+    }
+
     /// Whether a request is on this row, its number is 0, n + 1 or what else is asked for, and n is the file's.
     fn is_on(&self, rows: &[Row], is_such: impl Fn(u32, u32) -> bool) -> bool {
         self.request().is_some_and(|request| {
@@ -70,15 +97,15 @@ impl PollSight<'_> {
     }
 
     /// Whether the reply is this exception to this function.
-    fn is_told(&self, function: u8, code: u8) -> bool {
+    pub fn is_told(&self, function: u8, code: u8) -> bool {
         self.is_exception(code) && self.function() == function
     }
 
-    fn is_exception(&self, code: u8) -> bool {
+    pub fn is_exception(&self, code: u8) -> bool {
         self.reply.len() == 5 && self.reply[1] >= 0x80 && self.reply[2] == code
     }
 
-    fn address_is(&self, is_such: impl Fn(u16) -> bool) -> bool {
+    pub fn address_is(&self, is_such: impl Fn(u16) -> bool) -> bool {
         self.request().is_some_and(|request| is_such(request.address))
     }
 
@@ -123,7 +150,7 @@ const SET: [Row; 1] = [Row::SetRequested];
 pub type Shown = (&'static str, fn(&PollSight) -> bool);
 
 /// No reply: each frame has one reason for it only.
-pub const UNANSWERED: [Shown; 14] = [
+pub const UNANSWERED: [Shown; 15] = [
     ("no reply to 0 bytes", |p| p.frame.is_empty()),
     ("no reply to 2 or 3 bytes with a right CRC", |p| p.frame.len() < 4 && crc::checks(p.frame)),
     ("no reply to 257 bytes to us", |p| p.frame.len() == 257 && p.is_to_us()),
@@ -133,11 +160,14 @@ pub const UNANSWERED: [Shown; 14] = [
     ("no reply to a unit of 248 to 255", |p| p.is_to_others(248..=255)),
     ("06 to unit 0 done", |p| p.is_broadcast(WRITE) && p.sets_a_number()),
     ("06 to unit 0 of a value not 1..n", |p| p.is_broadcast(WRITE) && p.is_on(&SET, |value, n| value == 0 || value > n)),
-    ("06 to unit 0 on another address", |p| p.is_broadcast(WRITE) && p.request().is_some() && p.row().is_none()),
+    ("06 to unit 0 on another address", |p| p.is_broadcast(WRITE) && p.is_on_an_unknown_address()),
     ("06 to unit 0 of another length", |p| p.is_broadcast(WRITE) && p.request().is_none()),
     ("03 to unit 0 that we would answer", |p| p.is_broadcast(READ) && p.is_on(&NUMBERED, |k, n| (1..=n).contains(&k))),
     ("03 to unit 0 of another length", |p| p.is_broadcast(READ) && p.request().is_none()),
-    ("another function to unit 0", |p| p.is_to(0) && p.is_of_a_good_length() && ![READ, WRITE].contains(&p.function())),
+    ("01 to unit 0 of another length", |p| p.is_broadcast(READ_BOOLEANS) && p.request().is_none()),
+    ("another function to unit 0", |p| {
+        p.is_to(0) && p.is_of_a_good_length() && ![READ_BOOLEANS, READ, WRITE].contains(&p.function())
+    }),
 ];
 
 /// Exceptions, by the check that each fails; where a later check could fail as well, it does in some.
@@ -150,19 +180,16 @@ pub const EXCEPTIONS: [Shown; 28] = [
     ("03 to a 03 over 8 bytes", |p| p.is_told(READ, ILLEGAL_VALUE) && p.frame.len() > 8),
     ("03 to a 06 under 8 bytes", |p| p.is_told(WRITE, ILLEGAL_VALUE) && p.frame.len() < 8),
     ("03 to a 06 over 8 bytes", |p| p.is_told(WRITE, ILLEGAL_VALUE) && p.frame.len() > 8),
-    ("03 to over 8 bytes on an unknown address too", |p| {
-        let is_unknown = |request: Request| request.row().is_none();
-        p.is_exception(ILLEGAL_VALUE) && p.frame.len() > 8 && Request::of(&p.frame[..8]).is_some_and(is_unknown)
-    }),
+    ("03 to over 8 bytes on an unknown address too", |p| p.is_exception(ILLEGAL_VALUE) && p.begins_on_an_unknown_address()),
     ("any to 4 bytes", |p| p.reply.len() == 5 && p.frame.len() == 4),
     ("any to 256 bytes", |p| p.reply.len() == 5 && p.frame.len() == 256),
     ("02 to a 03 beside a row", |p| p.is_told(READ, ILLEGAL_ADDRESS) && p.address_is(|a| BESIDE_ROWS.contains(&a))),
-    ("02 to a 03 on another address", |p| p.is_told(READ, ILLEGAL_ADDRESS) && p.row().is_none()),
+    ("02 to a 03 on another address", |p| p.is_told(READ, ILLEGAL_ADDRESS) && p.is_on_an_unknown_address()),
     ("02 to a 06 on n or a pointer", |p| {
         p.is_told(WRITE, ILLEGAL_ADDRESS) && p.address_is(|a| (FIRST_REGISTER..=LAST_REGISTER).contains(&a))
     }),
     ("02 to a 06 on a record", |p| p.is_told(WRITE, ILLEGAL_ADDRESS) && p.address_is(|a| (701..=781).contains(&a))),
-    ("02 to a 06 whose value is 0 too", |p| p.is_told(WRITE, ILLEGAL_ADDRESS) && p.request().is_some_and(|r| r.number == 0)),
+    ("02 to a 06 whose value is 0 too", |p| p.is_told(WRITE, ILLEGAL_ADDRESS) && p.asks_for(0)),
     ("03 to record 0", |p| p.is_told(READ, ILLEGAL_VALUE) && p.is_on(&NUMBERED, |k, n| k == 0 && n > 0)),
     ("03 to record n + 1", |p| p.is_told(READ, ILLEGAL_VALUE) && p.is_on(&NUMBERED, |k, n| k == n + 1 && n > 0)),
     ("03 to a record past n + 1", |p| p.is_told(READ, ILLEGAL_VALUE) && p.is_on(&NUMBERED, |k, n| k > n + 1 && n > 0)),
@@ -178,11 +205,11 @@ pub const EXCEPTIONS: [Shown; 28] = [
 ];
 
 /// Replies that carry what was asked for.
-pub const REPLIES: [Shown; 23] = [
+pub const REPLIES: [Shown; 28] = [
     ("33 registers", |p| p.is_on(&REGISTERS, |quantity, _| quantity == 33) && is_read_reply(p.reply)),
     ("the last register alone", |p| p.address_is(|a| a == LAST_REGISTER) && p.is_data(|data| data.len() == 2)),
     ("an echo of a 06", |p| p.reply == p.frame && p.sets_a_number()),
-    ("a record of 250 bytes", |p| p.is_data(|data| data.len() == 250)),
+    ("a record of 250 bytes", |p| p.record().is_some() && p.is_data(|data| data.len() == 250)),
     ("a bare stamp as a record", |p| p.is_record(|asked| !asked.is_stamp) && p.is_data(|data| data.len() == 6)),
     ("an alarm record", |p| p.is_record(|asked| asked.file == 11 && !asked.is_stamp)),
     ("a record of zeros", |p| p.record().is_some() && p.is_data(|data| data.iter().all(|&byte| byte == 0))),
@@ -204,6 +231,13 @@ pub const REPLIES: [Shown; 23] = [
     }),
     ("a record while stopped", |p| p.record().is_some() && !p.before.flags.running),
     ("a record while unlocked", |p| p.record().is_some() && p.before.flags.unlocked),
+    ("live points while running", |p| p.is_live_reply() && p.before.flags.running),
+    ("live points while stopped", |p| p.is_live_reply() && !p.before.flags.running),
+    ("live points while unlocked", |p| p.is_live_reply() && p.before.flags.unlocked),
+    ("live points before the first scan", |p| p.is_live_reply() && !p.before.seen.scanned),
+    ("Booleans that are not those scanned last", |p| {
+        p.is_live_reply() && p.function() == READ_BOOLEANS && booleans(p.table) != booleans(&p.before.seen.booleans)
+    }),
     ("a reply in 256 bytes", |p| !p.reply.is_empty() && p.room == LEAST_REPLY),
     ("a reply in 257 bytes", |p| !p.reply.is_empty() && p.room == LEAST_REPLY + 1),
     ("a reply of 255 bytes in over 256", |p| p.reply.len() == 255 && p.room > LEAST_REPLY),

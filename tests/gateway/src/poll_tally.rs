@@ -1,14 +1,13 @@
 //! What the polls of a run have shown, and what they should have.
 
-use gateway::rows::{Request, Row};
-use model::card::{FOREIGN, MEMORY, REPLY};
-use model::crc;
+use gateway::rows::Request;
 use model::layout::ALARM_FILE;
-use model::machine::LEAST_REPLY;
 use reader::read_back::KINDS;
 
+use crate::live_sights::LiveTally;
 use crate::origins::ReadBack;
 use crate::poll_sights::{PollSight, Shown, EXCEPTIONS, REPLIES, UNANSWERED};
+use crate::refused_sights::{Refused, REFUSED};
 
 /// How often each is to be seen, how many replies each file is to give on each row, and how many records and stamps are to be
 /// decoded.
@@ -26,11 +25,8 @@ pub struct PollTally {
     replies: [usize; REPLIES.len()],
     /// How often a reply carried what was asked for, by row and file.
     rows: [[usize; ALARM_FILE]; ROWS.len()],
-    /// Refused for the reply buffer alone, with a 06 that must not be done.
-    undone: usize,
-    /// Memory and Foreign, with a reply buffer that is too short as well.
-    memory_and_reply: usize,
-    foreign_and_reply: usize,
+    refused: [usize; REFUSED.len()],
+    pub live: LiveTally,
     pub read_back: ReadBack,
 }
 
@@ -40,21 +36,20 @@ fn add(seen: &mut [usize], shown: &[Shown], sight: &PollSight) {
     }
 }
 
-fn named(what: &str, shown: &[Shown], seen: &[usize]) -> Vec<(String, usize, usize)> {
+fn named<T>(what: &str, shown: &[(&str, T)], seen: &[usize]) -> Vec<(String, usize, usize)> {
     shown.iter().zip(seen).map(|((name, _), &n)| (format!("{what}{name}"), n, OFTEN_ENOUGH)).collect()
 }
 
 impl PollTally {
-    /// A poll that was answered with this number.
-    pub fn count(&mut self, number: u8, frame: &[u8], room: usize) {
-        let is_set = || Request::of(frame).and_then(|request| request.row()).is_some_and(|(row, _)| row == Row::SetRequested);
-        self.undone += usize::from(number == REPLY && crc::checks(frame) && is_set());
-        self.memory_and_reply += usize::from(number == MEMORY && room < LEAST_REPLY);
-        self.foreign_and_reply += usize::from(number == FOREIGN && room < LEAST_REPLY);
+    pub fn refused(&mut self, refused: &Refused) {
+        for (seen, (_, is_shown)) in self.refused.iter_mut().zip(REFUSED) {
+            *seen += usize::from(is_shown(refused));
+        }
     }
 
     /// A poll that was not refused.
     pub fn polled(&mut self, sight: &PollSight) {
+        self.live.polled(sight);
         if sight.reply.is_empty() {
             return add(&mut self.unanswered, &UNANSWERED, sight);
         }
@@ -76,10 +71,9 @@ impl PollTally {
             let least = *files.iter().min().unwrap();
             seen.push((format!("replies on row \"{row}\" by the file that gave fewest"), least, REPLIES_A_FILE));
         }
+        seen.extend(self.live.seen());
+        seen.extend(named("refused: ", &REFUSED, &self.refused));
         let counted = |name: &str, n, least| (name.to_string(), n, least);
-        seen.push(counted("13 to a 06", self.undone, OFTEN_ENOUGH));
-        seen.push(counted("Memory with a short reply buffer", self.memory_and_reply, OFTEN_ENOUGH));
-        seen.push(counted("Foreign with a short reply buffer", self.foreign_and_reply, OFTEN_ENOUGH));
         let ReadBack { records, stamps, empty, leap_days, kinds } = &self.read_back;
         seen.push(counted("polled records read back by the reading end", *records, READ_BACK));
         seen.push(counted("polled stamps read back by the reading end", *stamps, READ_BACK));

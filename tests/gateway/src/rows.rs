@@ -1,10 +1,11 @@
-//! What a request asks for, by document 01's address table.
+//! What a request asks for, by document 01's address table; the rows of the live table are in `live`.
 
 use model::frames::number_at;
 use model::layout::{ALARM_FILE, ALARM_RECORDS, USER_FILES};
 use model::machine::{FIRST_REGISTER, LAST_REGISTER};
 
 use crate::ffi::State;
+use crate::live::Run;
 
 /// A row of the address table.
 #[derive(Clone, Copy, Debug, PartialEq, Eq)]
@@ -60,6 +61,13 @@ impl Request {
     }
 }
 
+impl Request {
+    /// Whether the address is one that the function knows, of the archive or of the live table.
+    pub fn is_known(&self) -> bool {
+        self.row().is_some() || Run::of(self).is_some()
+    }
+}
+
 /// A record that a 03 asks for, or its stamp alone.
 pub struct Asked {
     pub file: usize,
@@ -93,5 +101,5 @@ pub fn limit_of(s: &State, file: usize) -> u16 {
 
 /// Whether a reply to one of our polls carries data: an exception has 5 bytes, an echo function 06.
 pub fn is_read_reply(reply: &[u8]) -> bool {
-    reply.len() > 5 && reply[1] == 3
+    reply.len() > 5 && [1, 3].contains(&reply[1])
 }

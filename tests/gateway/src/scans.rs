@@ -1,23 +1,11 @@
 //! Random scans: live tables that raise and drop the points that a state names, and stamps; now and then one that is refused.
 
-use std::fmt;
-
 use gateway::ffi::State;
+use gateway::tables::Table;
 use model::machine::BOOLEAN_BYTES;
-use model::points::TABLE_BYTES;
 use model::record::Stamp;
 use reader::dates::on_impossible_day;
 use reader::random::{self, Random};
-
-/// A live table as it is lent, of any length.
-#[derive(Clone, PartialEq, Eq)]
-pub struct Table(pub Vec<u8>);
-
-impl fmt::Debug for Table {
-    fn fmt(&self, f: &mut fmt::Formatter) -> fmt::Result {
-        write!(f, "{} bytes from {:02x?}", self.0.len(), &self.0[..self.0.len().min(BOOLEAN_BYTES)])
-    }
-}
 
 /// The Booleans of a live table, or those remembered from one, as a word: 1801 is its lowest bit.
 pub fn booleans(bytes: &[u8]) -> u128 {
@@ -58,11 +46,9 @@ fn next_booleans(random: &mut Random, s: &State) -> u128 {
 
 /// The live table of the next scan; one in 24 has another length.
 pub fn table(random: &mut Random, s: &State) -> Table {
-    const LENGTHS: [usize; 6] = [0, 1, BOOLEAN_BYTES, TABLE_BYTES - 1, TABLE_BYTES + 1, 2 * TABLE_BYTES];
-    let length = if random.chance(24) { LENGTHS[random.below(6) as usize] } else { TABLE_BYTES };
-    let mut bytes = random.bytes(length);
+    let Table(mut bytes) = Table::random(random);
     let booleans = next_booleans(random, s).to_le_bytes();
-    let head = length.min(BOOLEAN_BYTES);
+    let head = bytes.len().min(BOOLEAN_BYTES);
     bytes[..head].copy_from_slice(&booleans[..head]);
     Table(bytes)
 }

@@ -1,13 +1,14 @@
 //! What a run has seen, and what it should have.
 
 use gateway::states::CLAUSES;
-use model::card::{CLOCK, FOREIGN, MEMORY, TABLE};
+use model::card::{CLOCK, DONE, FOREIGN, MEMORY, TABLE};
 use reader::dates::is_impossible_day;
 
 use crate::calls::{Call, NAMES, WIDE};
 use crate::compare::Wanted;
 use crate::lent::Lent;
 use crate::poll_tally::PollTally;
+use crate::refused_sights::Refused;
 use crate::sights::{Sight, SIGHTS};
 
 /// The numbers that each call of NAMES is to answer.
@@ -20,7 +21,7 @@ const NUMBERS: [&[usize]; NAMES.len()] = [
     &[0, 1, 2, 5, 9],
     &[0, 1, 2, 12],
     &[0, 1, 2, 3, 4],
-    &[0, 1, 2, 13],
+    &[0, 1, 2, 3, 13],
     &[0, 1, 2],
 ];
 
@@ -65,7 +66,9 @@ impl Tally {
                 self.table_and_clock += u32::from(number == TABLE && !stamp.in_range());
                 self.impossible_days += u32::from(number == CLOCK && is_impossible_day(stamp));
             }
-            Call::Poll { frame, room } => self.polls.count(number, &frame.0, *room),
+            Call::Poll { table, frame, room } if number != DONE => {
+                self.polls.refused(&Refused { number, table: &table.0, frame: &frame.0, room: *room });
+            }
             _ => {}
         }
     }

@@ -72,11 +72,11 @@ fn poll(s: &State, date: Stamp) -> u8 {
     let mut archive = vec![JUNK; ARCHIVE];
     archive[..STAMP_BYTES].copy_from_slice(&date.bytes(s.site.day_first));
     let stands = read_reply(UNIT, &archive[..RECORD]);
-    let mut frame = request(UNIT, READ, NUMBERED_RECORD + 1, 1);
+    let (mut table, mut frame) = (vec![JUNK; TABLE_BYTES], request(UNIT, READ, NUMBERED_RECORD + 1, 1));
     let (mut reply, mut wanted) = ([JUNK; LEAST_REPLY], [JUNK; LEAST_REPLY]);
     let mut machine = machine_of(s, &archive);
-    let (told, length) = machine.poll(ARCHIVE, &frame, &mut wanted);
-    let got = ffi::poll(*s, &mut archive, &mut frame, &mut reply);
+    let (told, length) = machine.poll(ARCHIVE, &table, &frame, &mut wanted);
+    let got = ffi::poll(*s, &mut archive, &mut table, &mut frame, &mut reply);
     assert_eq!((got.number, got.length as usize, reply), (told.number.into(), length, wanted), "{date:?}");
     assert_eq!(reply[..length], stands, "{date:?}");
     assert_left(&machine, s, &got.state, &archive, date);

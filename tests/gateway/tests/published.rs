@@ -2,7 +2,7 @@
 
 use gateway::ffi;
 use gateway::states::{state_of, ZEROS};
-use model::published::EXCHANGES;
+use model::published::{live_table, EXCHANGES};
 
 /// What the reply buffer holds as it is lent.
 const LENT: u8 = 0xAA;
@@ -13,7 +13,7 @@ fn polls_are_answered_as_published() {
         let (raw, mut archive) = exchange.stands();
         let (s, mut request) = (state_of(&raw, None, &ZEROS), exchange.request());
         let mut reply = [LENT; 300];
-        let answer = ffi::poll(s, &mut archive, &mut request, &mut reply);
+        let answer = ffi::poll(s, &mut archive, &mut live_table(), &mut request, &mut reply);
         assert_eq!((answer.number, answer.state), (0, s), "{}", exchange.source);
         let (sent, rest) = reply.split_at(answer.length as usize);
         assert_eq!(sent, exchange.reply(), "{}", exchange.source);

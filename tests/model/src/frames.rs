@@ -3,7 +3,9 @@
 
 use crate::crc::with_crc;
 
-/// The functions that are known: 03 reads, 06 writes.
+/// The functions that are known: 01 reads Booleans (document 02, L3), 03 all
+/// else that is read, 06 writes.
+pub const READ_BOOLEANS: u8 = 1;
 pub const READ: u8 = 3;
 pub const WRITE: u8 = 6;
 
@@ -12,6 +14,8 @@ pub const REQUEST_BYTES: usize = 8;
 /// A frame under 4 or over 256 bytes has no reply.
 pub const SHORTEST_FRAME: usize = 4;
 pub const LONGEST_FRAME: usize = 256;
+/// The most bytes of data that a reply carries.
+pub const MOST_DATA: usize = 250;
 
 /// Exception codes.
 pub const ILLEGAL_FUNCTION: u8 = 1;
@@ -39,7 +43,12 @@ pub fn request(unit: u8, function: u8, address: u16, number: u16) -> Vec<u8> {
 
 /// A read reply: unit, 03, byte count, bytes, CRC.
 pub fn read_reply(unit: u8, data: &[u8]) -> Vec<u8> {
-    let mut body = vec![unit, READ, data.len() as u8];
+    data_reply(unit, READ, data)
+}
+
+/// A reply with data; one to 01 carries 01 where a read has 03.
+pub fn data_reply(unit: u8, function: u8, data: &[u8]) -> Vec<u8> {
+    let mut body = vec![unit, function, data.len() as u8];
     body.extend(data);
     with_crc(body)
 }
@@ -68,6 +77,9 @@ mod tests {
         let data = [0xAE, 0x41, 0x56, 0x52, 0x43, 0x40];
         let reply = [&[0x11, 0x03, 0x06], &data[..], &[0x49, 0xAD]].concat();
         assert_eq!(read_reply(17, &data), reply);
+        let coils = [0xCD, 0x6B, 0xB2, 0x0E, 0x1B];
+        let reply = [&[0x11, 0x01, 0x05], &coils[..], &[0x45, 0xE6]].concat();
+        assert_eq!(data_reply(17, READ_BOOLEANS, &coils), reply);
         let told = [0x0A, 0x81, 0x02, 0xB0, 0x53];
         assert_eq!(exception(10, 1, ILLEGAL_ADDRESS), told);
         assert_eq!(exception(10, 0x81, ILLEGAL_ADDRESS), told);

@@ -3,6 +3,7 @@
 use ::gateway::ffi::{self, State};
 use ::gateway::frames::{any_frame, any_room};
 use ::gateway::states::{damage, standing, CLAUSES};
+use ::gateway::tables::Table;
 use model::frames::read_reply;
 use model::record::{captured_record, every_date};
 use reader::random::{groups, stamp, Random};
@@ -60,10 +61,10 @@ fn a_poll_is_the_librarys() {
         let mut archive = random.bytes(length);
         for _ in 0..20 {
             let (mut frame, room) = (any_frame(&mut random, &s).0, any_room(&mut random));
-            let mut reply = random.bytes(room);
+            let (Table(mut table), mut reply) = (Table::random(&mut random), random.bytes(room));
             let (mut after, mut plain_reply) = (s, reply.clone());
-            let plain = polls::poll(&mut after, &archive, &frame, &mut plain_reply);
-            let wanted = ffi::poll(s, &mut archive, &mut frame, &mut reply);
+            let plain = polls::poll(&mut after, &archive, &table, &frame, &mut plain_reply);
+            let wanted = ffi::poll(s, &mut archive, &mut table, &mut frame, &mut reply);
             assert_eq!((plain, after), ((wanted.number, wanted.length), wanted.state), "{frame:02x?}");
             assert_eq!(plain_reply, reply, "{frame:02x?}");
             numbers[wanted.number as usize] += 1;
@@ -71,8 +72,9 @@ fn a_poll_is_the_librarys() {
             s = after;
         }
     }
-    assert!([0, 1, 2, 13].iter().all(|&number| numbers[number] > 10), "numbers of polls {numbers:?}");
-    assert!([0, 5, 8, 11, 27, 255].iter().all(|&length| lengths[length] > 10), "lengths of replies {lengths:?}");
+    assert!([0, 1, 2, 3, 13].iter().all(|&number| numbers[number] > 10), "numbers of polls {numbers:?}");
+    // of live points, the shortest reply has 6 bytes, and the longest 253
+    assert!([0, 5, 6, 8, 11, 27, 253, 255].iter().all(|&length| lengths[length] > 10), "lengths of replies {lengths:?}");
 }
 
 #[test]

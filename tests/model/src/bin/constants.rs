@@ -1,14 +1,15 @@
-//! Prints the numbers of document 01, the card's words and the rows of the
-//! live table as lines, under the names that the C headers have for them,
-//! for comparison with what tests/c/constants.c prints from the headers.
+//! Prints the numbers of document 01 and of the requests that have landed, the
+//! card's words and the rows of the live table as lines, under the names that
+//! the C headers have for them, for comparison with what tests/c/constants.c
+//! prints from the headers.
 
 use std::mem::size_of_val;
 
 use model::card::{self, word, CARD};
 use model::foreign::{RawState, LEAST_UNIT, MOST_UNIT};
 use model::frames::{
-    exception_name, ILLEGAL_ADDRESS, ILLEGAL_FUNCTION, ILLEGAL_VALUE, LONGEST_FRAME, READ,
-    REQUEST_BYTES, WRITE,
+    exception_name, ILLEGAL_ADDRESS, ILLEGAL_FUNCTION, ILLEGAL_VALUE, LONGEST_FRAME, MOST_DATA,
+    READ, READ_BOOLEANS, REQUEST_BYTES, WRITE,
 };
 use model::layout::{ALARM_FILE, ALARM_RECORDS, ALARM_RECORD_BYTES, MOST_RECORDS, USER_FILES};
 use model::machine::{
@@ -84,7 +85,9 @@ fn lines() {
     show("REQUEST_BYTES", REQUEST_BYTES);
     show("LONGEST_FRAME", LONGEST_FRAME);
     show("LEAST_REPLY", LEAST_REPLY);
+    show("MOST_DATA", MOST_DATA);
     show("RECORD_AT", RECORD_START);
+    show("READ_FLAGS", READ_BOOLEANS);
     show("READ", READ);
     show("WRITE", WRITE);
     show("REQUESTED_RECORD", REQUESTED_RECORD);

@@ -1,14 +1,16 @@
-//! Document 01, "Frames": the Modbus RTU answering end.
+//! Document 01, "Frames": the Modbus RTU answering end; and document 02, L3:
+//! the live table, of which 01 reads the Booleans and 03 the other rows.
 
 use super::Machine;
 use crate::card::{self, lowest, Answer};
 use crate::crc;
 use crate::frames::{
-    exception, number_at, read_reply, ILLEGAL_ADDRESS, ILLEGAL_FUNCTION, ILLEGAL_VALUE,
-    LONGEST_FRAME, READ, REQUEST_BYTES, SHORTEST_FRAME, WRITE,
+    data_reply, exception, number_at, ILLEGAL_ADDRESS, ILLEGAL_FUNCTION, ILLEGAL_VALUE,
+    LONGEST_FRAME, MOST_DATA, READ, READ_BOOLEANS, REQUEST_BYTES, SHORTEST_FRAME, WRITE,
 };
 use crate::layout::ALARM_FILE;
-use crate::points::STAMP_BYTES;
+use crate::points::{group_of, row_of_point, Group, Kind, Row, STAMP_BYTES, TABLE_BYTES};
+use crate::record::captured_group;
 
 /// The least length of a lent reply buffer.
 pub const LEAST_REPLY: usize = 256;
@@ -35,25 +37,54 @@ fn file_past(base: u16, address: u16) -> Option<usize> {
     (1..=ALARM_FILE).find(|&f| usize::from(base) + f == usize::from(address))
 }
 
+/// The row of the live table that a function reads from an address on: 01
+/// the Booleans, 03 any other.
+fn live_row(function: u8, address: u16) -> Option<&'static Row> {
+    let row = row_of_point(address)?;
+    let reads_it = match row.kind {
+        Kind::Boolean => READ_BOOLEANS,
+        _ => READ,
+    };
+    (function == reads_it).then_some(row)
+}
+
+/// A run of points from one of this row on, as a captured group has them.
+fn live_points(table: &[u8], row: &Row, first: u16, quantity: u16) -> Result<Vec<u8>, u8> {
+    if quantity == 0 || row.bytes_of(quantity) > MOST_DATA {
+        return Err(ILLEGAL_VALUE);
+    }
+    match group_of(first, quantity) {
+        Group::Good(_) => Ok(captured_group(table, first, quantity)),
+        _past_its_row => Err(ILLEGAL_ADDRESS),
+    }
+}
+
 impl Machine {
     /// Poll. Answers as every call does, and the reply's length (0 for no
     /// reply). Reply bytes past that length are unchanged.
-    pub fn poll(&mut self, archive_len: usize, frame: &[u8], reply: &mut [u8]) -> (Answer, usize) {
+    pub fn poll(
+        &mut self,
+        archive_len: usize,
+        table: &[u8],
+        frame: &[u8],
+        reply: &mut [u8],
+    ) -> (Answer, usize) {
         let checked = lowest(&[
             (card::MEMORY, archive_len != self.archive_len),
             (card::FOREIGN, self.is_foreign()),
+            (card::TABLE, table.len() != TABLE_BYTES),
             (card::REPLY, reply.len() < LEAST_REPLY),
         ]);
         if checked.is_err() {
             return (checked.into(), 0);
         }
-        let bytes = self.reply_to(frame);
+        let bytes = self.reply_to(table, frame);
         reply[..bytes.len()].copy_from_slice(&bytes);
         (Answer::DONE, bytes.len())
     }
 
     /// The reply's bytes; none where there is no reply.
-    fn reply_to(&mut self, frame: &[u8]) -> Vec<u8> {
+    fn reply_to(&mut self, table: &[u8], frame: &[u8]) -> Vec<u8> {
         let length_is_good = (SHORTEST_FRAME..=LONGEST_FRAME).contains(&frame.len());
         if !length_is_good || !crc::checks(frame) {
             return Vec::new();
@@ -61,23 +92,23 @@ impl Machine {
         let (unit, function) = (frame[0], frame[1]);
         if unit == 0 {
             if function == WRITE {
-                let _no_reply_either_way = self.serve(frame);
+                let _no_reply_either_way = self.serve(table, frame);
             }
             return Vec::new();
         }
         if unit != self.unit {
             return Vec::new();
         }
-        match self.serve(frame) {
+        match self.serve(table, frame) {
             Ok(reply) => reply,
             Err(code) => exception(unit, function, code),
         }
     }
 
     /// The checks in their order, then the work: a reply or an exception.
-    fn serve(&mut self, frame: &[u8]) -> Result<Vec<u8>, u8> {
+    fn serve(&mut self, table: &[u8], frame: &[u8]) -> Result<Vec<u8>, u8> {
         let (unit, function) = (frame[0], frame[1]);
-        if function != READ && function != WRITE {
+        if ![READ_BOOLEANS, READ, WRITE].contains(&function) {
             return Err(ILLEGAL_FUNCTION);
         }
         if frame.len() != REQUEST_BYTES {
@@ -88,11 +119,16 @@ impl Machine {
             self.set_requested(address, number)?;
             return Ok(frame.to_vec());
         }
-        Ok(read_reply(unit, &self.read(address, number)?))
+        let data = match live_row(function, address) {
+            Some(row) => live_points(table, row, address, number)?,
+            None if function == READ => self.read_archive(address, number)?,
+            None => return Err(ILLEGAL_ADDRESS),
+        };
+        Ok(data_reply(unit, function, &data))
     }
 
-    /// Function 03: the data read.
-    fn read(&self, address: u16, quantity: u16) -> Result<Vec<u8>, u8> {
+    /// Function 03 on any address but the live table's: the data read.
+    fn read_archive(&self, address: u16, quantity: u16) -> Result<Vec<u8>, u8> {
         if let Some(file) = file_past(REQUESTED_RECORD, address) {
             self.record_requested(file)
         } else if let Some(file) = file_past(NUMBERED_RECORD, address) {

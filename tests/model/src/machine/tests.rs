@@ -1,5 +1,5 @@
 //! The marked cases (*) and known blunders of document 01 that are about
-//! the machine, and the rules of each call.
+//! the machine, and the rules of each call; live points of document 02, L3.
 
 use super::*;
 use crate::card::Refusal;
@@ -9,6 +9,7 @@ use crate::points::{groups_from_first_place, TABLE_BYTES};
 use crate::record::{february, Stamp, AUGUST};
 
 mod frames;
+mod live;
 mod mixed_run;
 mod rows;
 mod scans;
@@ -81,10 +82,16 @@ fn ask(machine: &mut Machine, unit: u8, function: u8, address: u16, number: u16)
     send(machine, &request(unit, function, address, number))
 }
 
-/// The reply to a frame; the rest of the reply buffer must stay as lent.
+/// The reply to a frame, over a live table of zeros.
 fn send(machine: &mut Machine, frame: &[u8]) -> Vec<u8> {
+    send_over(machine, &table_with(&[]), frame)
+}
+
+/// The reply to a frame, over this live table; the rest of the reply buffer
+/// must stay as lent.
+fn send_over(machine: &mut Machine, table: &[u8], frame: &[u8]) -> Vec<u8> {
     let mut reply = [0xAA; 300];
-    let (answer, length) = machine.poll(ARCHIVE, frame, &mut reply);
+    let (answer, length) = machine.poll(ARCHIVE, table, frame, &mut reply);
     done(answer);
     assert!(reply[length..].iter().all(|&byte| byte == 0xAA));
     reply[..length].to_vec()

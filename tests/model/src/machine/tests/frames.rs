@@ -128,16 +128,19 @@ fn a_06_to_unit_0_is_done_without_reply() {
 #[test]
 fn other_functions_are_exception_01_whatever_their_length() {
     let mut machine = with_three_captures();
-    for function in (0..=255).filter(|function| ![3, 6].contains(function)) {
+    for function in (0..=255).filter(|function| ![1, 3, 6].contains(function)) {
         for length in [4, 7, 8, 9, 256] {
             let frame = of_length(&request(UNIT, function, 721, 2), length);
             let reply = send(&mut machine, &frame);
             assert_eq!(reply, exception(function, ILLEGAL_FUNCTION));
         }
     }
+    let reply = ask(&mut machine, UNIT, 0x82, 721, 2);
+    assert_eq!(reply[..3], [UNIT, 0x82, 1]);
+    assert_eq!(reply, ask(&mut machine, UNIT, 0x02, 721, 2));
     let reply = ask(&mut machine, UNIT, 0x81, 721, 2);
     assert_eq!(reply[..3], [UNIT, 0x81, 1]);
-    assert_eq!(reply, ask(&mut machine, UNIT, 0x01, 721, 2));
+    assert_ne!(reply, ask(&mut machine, UNIT, 0x01, 721, 2), "01 is known");
 }
 
 /// Each frame has a fault that the line names and every later one that it
@@ -180,15 +183,16 @@ fn a_record_of_250_bytes_fills_a_reply_of_255() {
 fn a_poll_answers_the_lowest_that_applies() {
     let mut machine = with_three_captures();
     let before = machine.clone();
-    let poll = request(UNIT, 6, 3703, 1);
+    let (table, poll) = (table_with(&[]), request(UNIT, 6, 3703, 1));
     let mut reply = [0xAA; 255];
-    let (answer, length) = machine.poll(ARCHIVE, &poll, &mut reply);
+    let (answer, length) = machine.poll(ARCHIVE, &table, &poll, &mut reply);
     refused(answer, 13);
     assert_eq!((length, reply), (0, [0xAA; 255]));
-    refused(machine.poll(ARCHIVE - 1, &poll, &mut reply).0, 1);
-    refused(machine.poll(ARCHIVE, &[], &mut []).0, 13);
-    assert_eq!(machine, before);
+    refused(machine.poll(ARCHIVE - 1, &[], &poll, &mut reply).0, 1);
+    refused(machine.poll(ARCHIVE, &[], &poll, &mut reply).0, 3);
+    refused(machine.poll(ARCHIVE, &table, &[], &mut []).0, 13);
+    assert_eq!((machine.clone(), reply), (before, [0xAA; 255]));
     let mut reply = [0xAA; 256];
-    assert_eq!(machine.poll(ARCHIVE, &poll, &mut reply).1, 8);
+    assert_eq!(machine.poll(ARCHIVE, &table, &poll, &mut reply).1, 8);
     assert_eq!(reply[..8], poll);
 }

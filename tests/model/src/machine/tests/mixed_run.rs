@@ -53,7 +53,9 @@ fn one_call(machine: &mut Machine, mixer: &mut Mixer) -> Answer {
         _ => {
             let address = 3703 + 3 * file as u16;
             let frame = request(UNIT, 6, address, mixer.below(40) as u16);
-            machine.poll(ARCHIVE, &frame, &mut [0; 256]).0
+            let mut table = a_table(mixer);
+            table.truncate(TABLE_BYTES - (mixer.below(9) / 8) as usize);
+            machine.poll(ARCHIVE, &table, &frame, &mut [0; 256]).0
         }
     }
 }

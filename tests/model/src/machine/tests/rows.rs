@@ -144,8 +144,8 @@ fn every_run_of_registers() {
     }
 }
 
-/// With number 1 every known address answers, so that any exception is 02
-/// and tells an unknown one.
+/// With number 1 every known address answers, the live table's too, so that
+/// any exception is 02 and tells an unknown one.
 #[test]
 fn no_other_address_is_known() {
     let mut machine = eleven_files();
@@ -153,10 +153,18 @@ fn no_other_address_is_known() {
         ask(&mut machine, UNIT, 6, 3700 + 3 * file, 1);
     }
     for address in 0..=65_535 {
-        let is_read =
+        let is_archive =
             matches!(address, 701..=711 | 721..=731 | 751..=761 | 771..=781 | 3701..=3733);
+        let is_live = matches!(
+            address,
+            3001..=3064 | 4001..=4032 | 5101..=5164 | 7101..=7228 | 14001..=14016
+        );
+        let is_read = is_archive || is_live;
         let reply = ask(&mut machine, UNIT, 3, address, 1);
         assert_eq!(reply != exception(3, ILLEGAL_ADDRESS), is_read, "{address}");
+        let is_flag = (1801..=1928).contains(&address);
+        let reply = ask(&mut machine, UNIT, 1, address, 1);
+        assert_eq!(reply != exception(1, ILLEGAL_ADDRESS), is_flag, "{address}");
         let is_set = (3703..=3733).contains(&address) && address % 3 == 3703 % 3;
         let reply = ask(&mut machine, UNIT, 6, address, 1);
         assert_eq!(reply != exception(6, ILLEGAL_ADDRESS), is_set, "{address}");

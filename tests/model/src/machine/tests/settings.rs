@@ -70,7 +70,7 @@ fn the_zeros_of_a_refused_fresh_refuse_every_call() {
     refused(zeros.trigger(0, 99, 1), 2);
     refused(zeros.alarm(0, 99, 1, 9, 9), 2);
     refused(zeros.scan(0, &[], at_second(99)), 2);
-    refused(zeros.poll(0, &[], &mut []).0, 2);
+    refused(zeros.poll(0, &[], &[], &mut []).0, 2);
     assert_eq!(zeros, before);
     assert!(zeros.archive_memory().is_empty());
 }
@@ -89,7 +89,7 @@ fn another_length_is_memory_at_every_call() {
         refused(machine.trigger(length, 99, 1), 1);
         refused(machine.alarm(length, 99, 1, 9, 9), 1);
         refused(machine.scan(length, &[], at_second(99)), 1);
-        refused(machine.poll(length, &[], &mut []).0, 1);
+        refused(machine.poll(length, &[], &[], &mut []).0, 1);
     }
     assert_eq!(machine, before);
 }
