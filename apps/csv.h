@@ -1,9 +1,10 @@
-/* A point's value as a cell of a CSV file. */
+/* A point's value as a cell of a CSV file, and the points of a live table as lines of one. */
 #ifndef CSV_H
 #define CSV_H
 
 #include <stddef.h>
 #include <stdint.h>
+#include <stdio.h>
 
 #include "windrow_points.h"
 
@@ -25,5 +26,15 @@ struct value {
  * up; a quote is doubled, and a backslash or a byte that is not printable ASCII is \xHH.
  */
 void cell_of(char cell[CELL_BYTES], struct value value);
+
+/* The cell of a point, from a live table's bytes by their kind; an empty one where there is no such point. */
+void point_cell(char cell[CELL_BYTES], const uint8_t *table, uint32_t point);
+
+/* A kind in a word. */
+const char *kind_word(enum windrow_kind kind);
+
+/* Points of a live table from `first` on, a line each: the point, its kind and its cell. The heading is for the caller. */
+#define POINT_HEADINGS "point,kind,value"
+void write_points(FILE *out, const uint8_t *table, uint32_t first, uint32_t count);
 
 #endif

@@ -27,11 +27,12 @@ static const char help[] =
 /* A poll is answered by the library itself, in this program. */
 static size_t exchange(void *self, const uint8_t request[WINDROW_REQUEST_BYTES], uint8_t reply[WINDROW_LONGEST_FRAME])
 {
+    static const uint8_t no_table[WINDROW_TABLE_BYTES]; /* no live table is stored, and none is asked for */
     const struct store *store = self;
     struct windrow_state state = store->state; /* a poll may change a state, and this one is only looked at */
     uint32_t length;
-    uint32_t number = windrow_poll(&state, store->archive, store->archive_length, request, WINDROW_REQUEST_BYTES, reply,
-                                   WINDROW_LONGEST_FRAME, &length);
+    uint32_t number = windrow_poll(&state, store->archive, store->archive_length, no_table, sizeof no_table, request,
+                                   WINDROW_REQUEST_BYTES, reply, WINDROW_LONGEST_FRAME, &length);
     return number == WINDROW_DONE ? length : 0;
 }
 

@@ -5,6 +5,7 @@
 #include <stdlib.h>
 #include <string.h>
 
+#include "csv.h"
 #include "options.h"
 #include "polling.h"
 #include "report.h"
@@ -21,6 +22,8 @@ static const char help[] =
     "\n"
     "  --settings FILE   a gateway's settings: says what it answers to a request, as long as nothing is captured or requested\n"
     "  --file F          the frame is a reply with a record of file F, 1-11, or with its stamp: takes it apart by the settings\n"
+    "  --live POINT      the frame is a reply with live points from POINT on: takes it apart. Of flags, which come eight to a\n"
+    "                    byte, the last ones may not have been asked for\n"
     "  --help            this page\n"
     "\n"
     "The status is 0 for a frame that is understood, 1 for one that is damaged or refused.\n"
@@ -80,6 +83,19 @@ static unsigned file_at(unsigned base, unsigned address)
     return address > base && address <= base + WINDROW_ALARM_FILE ? address - base : 0;
 }
 
+/* A read of the live table, or of an address that is nothing else's. */
+static void tell_live(uint8_t function, unsigned address, unsigned quantity)
+{
+    struct windrow_row row = windrow_row_of(address);
+    if (row.kind == WINDROW_NONE)
+        printf("as a request: reads from address %u, which is none of a gateway's\n", address);
+    else if (function != windrow_function_for(row))
+        printf("as a request: reads from address %u, a live point of kind %s, which function %02X reads\n", address,
+               kind_word(row.kind), windrow_function_for(row));
+    else
+        printf("as a request: reads %u live points from %u on, of kind %s\n", quantity, address, kind_word(row.kind));
+}
+
 static void tell_read(unsigned address, unsigned quantity)
 {
     unsigned file;
@@ -98,7 +114,7 @@ static void tell_read(unsigned address, unsigned quantity)
                (address - WINDROW_FIRST_REGISTER) / WINDROW_REGISTERS_A_FILE + 1,
                (const char *[]){"n", "pointer", "requested number"}[(address - WINDROW_FIRST_REGISTER) % WINDROW_REGISTERS_A_FILE]);
     else
-        printf("as a request: reads from address %u, which is none of a gateway's\n", address);
+        tell_live(WINDROW_READ, address, quantity);
 }
 
 static void tell_write(unsigned unit, unsigned address, unsigned value)
@@ -119,6 +135,8 @@ static void tell_request(const struct frame *frame)
     unsigned address = windrow_get_bytes(&frame->bytes[2], 2), value = windrow_get_bytes(&frame->bytes[4], 2);
     if (frame->bytes[1] == WINDROW_READ)
         tell_read(address, value);
+    else if (frame->bytes[1] == WINDROW_READ_FLAGS)
+        tell_live(WINDROW_READ_FLAGS, address, value);
     else if (frame->bytes[1] == WINDROW_WRITE)
         tell_write(frame->bytes[0], address, value);
 }
@@ -147,6 +165,18 @@ static void tell_registers(const struct frame *frame)
     printf("\n");
 }
 
+/* The data as flags, by eights, each byte's lowest bit first, where it can be. */
+static void tell_flags(const struct frame *frame)
+{
+    if (frame->bytes[1] != WINDROW_READ_FLAGS || frame->bytes[2] == 0 || frame->length != frame->bytes[2] + 5u
+        || !windrow_has_crc(frame->bytes, frame->length))
+        return;
+    printf("as a reply with flags, the first one first:");
+    for (unsigned i = 0; i < 8u * frame->bytes[2]; i++)
+        printf("%s%d", i % 8 == 0 ? " " : "", frame->bytes[WINDROW_RECORD_AT + i / 8] >> i % 8 & 1);
+    printf("\n");
+}
+
 /* Answers whether it is one, or a request. */
 static bool tell_read_reply(const struct frame *frame)
 {
@@ -157,20 +187,34 @@ static bool tell_read_reply(const struct frame *frame)
         printf("no request: one has 8 bytes; no reply: byte count %zu wants %zu bytes in all, and there are %zu\n", count,
                count + 5, frame->length);
     tell_registers(frame);
+    tell_flags(frame);
     return frame->length == count + 5 || frame->length == WINDROW_REQUEST_BYTES;
+}
+
+static const char *function_name(uint8_t function)
+{
+    switch (function) {
+    case WINDROW_READ_FLAGS:
+        return ", read flags";
+    case WINDROW_READ:
+        return ", read";
+    case WINDROW_WRITE:
+        return ", write one register";
+    default:
+        return function & 0x80 ? ", an exception" : "";
+    }
 }
 
 /* Answers whether the frame's length is one that its function has. */
 static bool tell_function(const struct frame *frame)
 {
     uint8_t function = frame->bytes[1];
-    const char *name = function == WINDROW_READ ? ", read" : function == WINDROW_WRITE ? ", write one register" : "";
-    printf("function %02X%s\n", function, function & 0x80 ? ", an exception" : name);
+    printf("function %02X%s\n", function, function_name(function));
     if (frame->length == WINDROW_REQUEST_BYTES)
         tell_request(frame);
     if (function & 0x80)
         return tell_exception(frame);
-    if (function == WINDROW_READ)
+    if (function == WINDROW_READ || function == WINDROW_READ_FLAGS)
         return tell_read_reply(frame);
     if (function == WINDROW_WRITE && frame->length != WINDROW_REQUEST_BYTES)
         printf("no request and no reply: both have 8 bytes, and this frame %zu\n", frame->length);
@@ -202,6 +246,26 @@ static bool tell_record(const struct frame *frame, const struct settings *settin
     return true;
 }
 
+/* The live points in the frame, from this one on: as many as its bytes hold, but of flags none past their row. */
+static bool tell_points(const struct frame *frame, uint32_t first)
+{
+    static uint8_t table[WINDROW_TABLE_BYTES];
+    struct windrow_row row = windrow_row_of(first);
+    uint32_t bytes = frame->length > 2 ? frame->bytes[2] : 0, flags = row.last - first + 1u;
+    uint32_t count = row.size == 0 ? 8 * bytes : bytes / row.size;
+    if (row.size == 0 && count > flags)
+        count = flags;
+    printf("as live points from %lu on", (unsigned long)first);
+    if (!windrow_reply_points(frame->bytes, frame->length, table, first, count)) {
+        printf(": it is no reply to %02X with such points, of kind %s, and a right CRC\n", windrow_function_for(row),
+               kind_word(row.kind));
+        return false;
+    }
+    printf(", %lu bytes:\n" POINT_HEADINGS "\n", (unsigned long)bytes);
+    write_points(stdout, table, first, count);
+    return true;
+}
+
 static bool explain(const struct frame *frame)
 {
     printf("%zu bytes", frame->length);
@@ -215,11 +279,15 @@ static bool explain(const struct frame *frame)
     return tell_function(frame) && right;
 }
 
-/* Whether every gateway answers a request like this: registers, and what none knows. Records depend on its files. */
+/*
+ * Whether every gateway answers a request like this, with as many bytes or the same exception: registers, live points, and what none
+ * knows. Records depend on its files.
+ */
 static bool is_answered_alike(const struct frame *frame, uint32_t exception)
 {
     unsigned address = windrow_get_bytes(&frame->bytes[2], 2);
     return exception == WINDROW_ILLEGAL_FUNCTION || exception == WINDROW_ILLEGAL_ADDRESS
+           || windrow_row_of(address).kind != WINDROW_NONE
            || (frame->bytes[1] == WINDROW_READ && address >= WINDROW_FIRST_REGISTER && address <= WINDROW_LAST_REGISTER);
 }
 
@@ -227,6 +295,7 @@ static bool is_answered_alike(const struct frame *frame, uint32_t exception)
 static void tell_answer(const struct frame *frame, const struct settings *settings)
 {
     static uint8_t least[WINDROW_LEAST_ARCHIVE];
+    static const uint8_t table[WINDROW_TABLE_BYTES]; /* how long an answer is does not depend on what live points hold */
     struct store store = {.archive = least, .archive_length = sizeof least};
     uint8_t reply[WINDROW_LEAST_REPLY];
     uint32_t length = 0;
@@ -235,8 +304,8 @@ static void tell_answer(const struct frame *frame, const struct settings *settin
     else if (windrow_fresh(&store.state, false, frame->bytes[0], least, sizeof least) != WINDROW_DONE)
         return; /* no gateway has this unit */
     struct windrow_state before = store.state;
-    uint32_t number = windrow_poll(&store.state, store.archive, store.archive_length, frame->bytes, frame->length, reply,
-                                   sizeof reply, &length);
+    uint32_t number = windrow_poll(&store.state, store.archive, store.archive_length, table, sizeof table, frame->bytes,
+                                   frame->length, reply, sizeof reply, &length);
     if (settings != NULL)
         free(store.archive);
     if (number != WINDROW_DONE)
@@ -253,29 +322,44 @@ static void tell_answer(const struct frame *frame, const struct settings *settin
         printf("%s answers it with %lu bytes\n", who, (unsigned long)length);
 }
 
+/* A point of the live table. */
+static uint32_t option_point(const char *name, const char *text)
+{
+    uint32_t point = option_whole(name, text, 1, UINT16_MAX);
+    if (windrow_row_of(point).kind == WINDROW_NONE)
+        misused("%s takes a point of the live table, not `%s`", name, text);
+    return point;
+}
+
 int main(int count, char **words)
 {
     static struct frame frame;
     static struct settings settings;
-    const char *path = NULL, *number = NULL;
-    const struct known_option known[] = {{"--settings", &path, NULL}, {"--file", &number, NULL}, {NULL, NULL, NULL}};
+    const char *path = NULL, *number = NULL, *point = NULL;
+    const struct known_option known[] = {
+        {"--settings", &path, NULL}, {"--file", &number, NULL}, {"--live", &point, NULL}, {NULL, NULL, NULL}};
     const char *const pages[] = {help, settings_help, NULL};
     report_as("windrow-frame");
     int plain = options_take(count, words, known, pages);
     if (plain == 0)
         misused("a frame in hexadecimal is wanted");
     uint32_t file = number == NULL ? 0 : option_whole("--file", number, 1, ALL_FILES);
+    uint32_t first = point == NULL ? 0 : option_point("--live", point);
     if (path == NULL && number != NULL)
         misused("--file needs --settings");
+    if (file != 0 && first != 0)
+        misused("a reply has a record or live points, not both");
     for (int i = 1; i <= plain; i++)
         take_hex(&frame, words[i]);
     if (path != NULL)
         settings_read(&settings, path);
     bool fine = explain(&frame);
-    if (fine && frame.length == WINDROW_REQUEST_BYTES && (frame.bytes[1] & 0x80) == 0 && file == 0)
+    if (fine && frame.length == WINDROW_REQUEST_BYTES && (frame.bytes[1] & 0x80) == 0 && file == 0 && first == 0)
         tell_answer(&frame, path != NULL ? &settings : NULL);
     if (file != 0)
         fine = tell_record(&frame, &settings, file) && fine;
+    if (first != 0)
+        fine = tell_points(&frame, first) && fine;
     finish_output();
     return fine ? EXIT_FINE : EXIT_TROUBLE;
 }

@@ -33,6 +33,9 @@ static const char help[] =
     "  --scans N         ends after N scans, those that a store already has included\n"
     "  --hold            goes on answering after the last scan, until it is interrupted\n"
     "  --help            this page\n"
+    "\n"
+    "A poll of live points, by 01 of flags and by 03 of others, reads the table of the latest scan, be it one that a store\n"
+    "already has or one that is refused for its date. Before the first scan all are zeros.\n"
     "\n";
 
 struct options {
@@ -51,7 +54,7 @@ struct host {
     struct yard yard;
     FILE *trace, *record;
     size_t timed; /* the next change of the settings that may have a date to come */
-    struct windrow_stamp stamp;
+    struct windrow_stamp stamp; /* of the latest scan, and its table: what the probes hold until the next */
     uint8_t table[WINDROW_TABLE_BYTES];
     uint32_t polls;
 };
@@ -180,8 +183,8 @@ static void serve(struct host *host, int wait_ms)
         return;
     struct windrow_state before = store->state;
     uint32_t to_send;
-    uint32_t number =
-        windrow_poll(&store->state, store->archive, store->archive_length, frame, length, reply, sizeof reply, &to_send);
+    uint32_t number = windrow_poll(&store->state, store->archive, store->archive_length, host->table, sizeof host->table, frame,
+                                   length, reply, sizeof reply, &to_send);
     if (number != WINDROW_DONE)
         setup_refused("a poll", number);
     if (memcmp(&before, &store->state, sizeof before) != 0)

@@ -52,11 +52,11 @@ static bool is_answer(enum outcome outcome)
  * Asks until a frame of the right unit and function comes, an exception too, as often as the source wants it tried. An answer
  * does not say which request it is to, so that after more than one the rest must not be taken for the next poll's.
  */
-static bool ask(struct source *source, uint16_t address, uint16_t quantity, const char *what, uint8_t reply[WINDROW_LONGEST_FRAME],
-                size_t *length)
+static enum outcome ask(struct source *source, uint8_t function, uint32_t address, uint32_t quantity, const char *what,
+                        uint8_t reply[WINDROW_LONGEST_FRAME], size_t *length)
 {
     uint8_t request[WINDROW_REQUEST_BYTES];
-    windrow_request(request, source->unit, WINDROW_READ, address, quantity);
+    windrow_request(request, source->unit, function, (uint16_t)address, (uint16_t)quantity);
     enum outcome outcome = NO_ANSWER;
     int asked;
     for (asked = 0; asked < source->tries && !is_answer(outcome); asked++) {
@@ -69,7 +69,14 @@ static bool ask(struct source *source, uint16_t address, uint16_t quantity, cons
         source->settle(source->self, true);
     if (!source->quiet)
         tell(outcome, what, request, reply);
-    return outcome == ANSWERED;
+    return outcome;
+}
+
+/* An answer that has other data than was asked for. */
+static void tell_size(const struct source *source, const char *what, const uint8_t *reply, size_t wanted)
+{
+    if (!source->quiet)
+        complain("%s: %u bytes came, and %zu were asked for", what, reply[2], wanted);
 }
 
 bool poll_registers(struct source *source, struct registers files[ALL_FILES])
@@ -78,11 +85,10 @@ bool poll_registers(struct source *source, struct registers files[ALL_FILES])
     uint8_t reply[WINDROW_LONGEST_FRAME];
     uint16_t values[COUNT];
     size_t length;
-    if (!ask(source, WINDROW_FIRST_REGISTER, COUNT, "registers", reply, &length))
+    if (ask(source, WINDROW_READ, WINDROW_FIRST_REGISTER, COUNT, "registers", reply, &length) != ANSWERED)
         return false;
     if (!windrow_reply_registers(reply, length, values, COUNT)) {
-        if (!source->quiet)
-            complain("registers: %u bytes came, and %d were asked for", reply[2], 2 * COUNT);
+        tell_size(source, "registers", reply, 2 * COUNT);
         return false;
     }
     for (int i = 0; i < ALL_FILES; i++) {
@@ -205,7 +211,7 @@ bool poll_record(struct source *source, struct file file, uint16_t number, struc
     snprintf(what, sizeof what, "file %lu, record %u", (unsigned long)file.number, number);
     row->card = WINDROW_GARBLED; /* until a reply says otherwise */
     row->bytes = 0;
-    if (!ask(source, (uint16_t)(WINDROW_NUMBERED_RECORD + file.number), number, what, frame, &length))
+    if (ask(source, WINDROW_READ, WINDROW_NUMBERED_RECORD + file.number, number, what, frame, &length) != ANSWERED)
         return false;
     take_reply(row, file, source->day_first, frame, length);
     if (row->card == WINDROW_DONE || row->card == WINDROW_EMPTY || row->undated)
@@ -213,6 +219,35 @@ bool poll_record(struct source *source, struct file file, uint16_t number, struc
     if (!source->quiet)
         complain("%s: %s", what, row->text);
     return false;
+}
+
+/* One poll of live points, no more than it can read. */
+static bool poll_run(struct source *source, struct windrow_row row, uint32_t first, uint32_t count,
+                     uint8_t table[WINDROW_TABLE_BYTES])
+{
+    uint8_t frame[WINDROW_LONGEST_FRAME];
+    char what[64];
+    size_t length;
+    snprintf(what, sizeof what, "points %lu-%lu", (unsigned long)first, (unsigned long)(first + count - 1));
+    enum outcome outcome = ask(source, windrow_function_for(row), first, count, what, frame, &length);
+    if (outcome == REFUSED_BY_EXCEPTION && !source->quiet)
+        complain("gateways before version 2.0 have no live points to read");
+    if (outcome != ANSWERED)
+        return false;
+    bool taken = windrow_reply_points(frame, length, table, first, count);
+    if (!taken)
+        tell_size(source, what, frame, windrow_points_bytes(row, count));
+    return taken;
+}
+
+bool poll_points(struct source *source, uint32_t first, uint32_t count, uint8_t table[WINDROW_TABLE_BYTES])
+{
+    struct windrow_row row = windrow_row_of(first);
+    uint32_t most = windrow_most_points(row);
+    for (; count > most; first += most, count -= most)
+        if (!poll_run(source, row, first, most, table))
+            return false;
+    return poll_run(source, row, first, count, table);
 }
 
 void tell_left_out(struct file file, uint16_t number, const char *why)

@@ -1,6 +1,7 @@
 /*
- * Polls of a gateway's files: its registers, and its records as rows of CSV. What answers the polls is a line with a gateway at
- * its other end, or a state and an archive in this program; the library makes the replies and takes them apart, both ways.
+ * Polls of a gateway: its registers, its records as rows of CSV, and its live points. What answers the polls is a line with a
+ * gateway at its other end, or a state and an archive in this program; the library makes the replies and takes them apart, both
+ * ways.
  */
 #ifndef POLLING_H
 #define POLLING_H
@@ -57,6 +58,12 @@ bool poll_registers(struct source *source, struct registers files[ALL_FILES]);
  * is one that is undated: a gateway before 1.1 may have filed it, and the others of its file are good. It is for the caller to tell.
  */
 bool poll_record(struct source *source, struct file file, uint16_t number, struct row *row);
+
+/*
+ * Asks for live points, `count` of them from `first` on, which are in one row, by as few polls as they take, and puts them into a
+ * table; false, and it is told, where no right answer comes.
+ */
+bool poll_points(struct source *source, uint32_t first, uint32_t count, uint8_t table[WINDROW_TABLE_BYTES]);
 
 /* Says why a record is left out. */
 void tell_left_out(struct file file, uint16_t number, const char *why);

@@ -1,4 +1,4 @@
-/* windrow-read: polls a gateway over a line and writes its files as CSV. */
+/* windrow-read: polls a gateway over a line and writes its files, or its live points, as CSV. */
 #include <errno.h>
 #include <limits.h>
 #include <signal.h>
@@ -10,6 +10,7 @@
 #include <time.h>
 #include <unistd.h>
 
+#include "csv.h"
 #include "line.h"
 #include "options.h"
 #include "polling.h"
@@ -18,12 +19,16 @@
 
 static const char help[] =
     "windrow-read DEVICE SETTINGS [FILE | FILE=CSV]..: reads files of a gateway over a serial line, oldest record first\n"
+    "windrow-read DEVICE SETTINGS --live [POINT | FIRST-LAST]..: reads its live table, what its probes hold now\n"
     "\n"
     "FILE is 1-10, or 11 for the alarm file. One FILE alone goes to standard output; FILE=CSV goes to that file, which\n"
     "is replaced when all is read. Without a FILE, n, pointer and requested number of every file are written.\n"
     "A record whose date or time does not exist is told and left out; the status is then 1.\n"
     "SETTINGS are the gateway's own: unit, date order, the files' groups, speed and parity of the line.\n"
     "\n"
+    "  --live        points of the live table instead of files, a line each: point, kind and value. FIRST-LAST are points\n"
+    "                of one row of it; without any, all 432 are read, by 11 polls, each of which has the table as it is\n"
+    "                then. Of the settings it takes only unit, speed and parity. Gateways before 2.0 have none to read.\n"
     "  --follow      goes on with each new record, until it is interrupted (then it looks once more)\n"
     "  --every MS    how often it looks, in milliseconds (200). A file must not go round between two looks.\n"
     "  --wait MS     how long it waits for an answer (1000)\n"
@@ -41,6 +46,13 @@ struct reading {
     uint16_t limit, last; /* n, and the pointer up to which rows are written */
 };
 
+/* Points of one row of the live table. */
+struct run {
+    uint32_t first, count;
+};
+
+#define MOST_RUNS 64
+
 struct reader {
     struct settings settings;
     struct line_end line;
@@ -52,6 +64,9 @@ struct reader {
     struct source source;
     struct reading readings[ALL_FILES];
     int count;
+    bool live; /* these points are read, and no files */
+    struct run runs[MOST_RUNS];
+    int run_count;
 };
 
 static volatile sig_atomic_t interrupted = 0;
@@ -62,10 +77,11 @@ static void interrupt(int signal)
     interrupted = 1;
 }
 
-/* How long a reply is, as far as its first bytes tell; a reply to 03 has its byte count, an exception is 5 bytes. */
+/* How long a reply is, as far as its first bytes tell; a reply to a read has its byte count, an exception is 5 bytes. */
 static size_t length_told(const uint8_t *reply, size_t length)
 {
-    size_t told = length >= 3 && reply[1] == WINDROW_READ ? 5u + reply[2] : 5;
+    bool counts = length >= 3 && (reply[1] == WINDROW_READ || reply[1] == WINDROW_READ_FLAGS);
+    size_t told = counts ? 5u + reply[2] : 5;
     return told < WINDROW_LONGEST_FRAME ? told : WINDROW_LONGEST_FRAME;
 }
 
@@ -322,12 +338,30 @@ static bool write_registers(struct reader *reader)
     return true;
 }
 
+/* Nothing is written before all is read, so that what a failed read leaves does not look like a table. */
+static bool write_live(struct reader *reader)
+{
+    static uint8_t table[WINDROW_TABLE_BYTES];
+    for (int i = 0; i < reader->run_count; i++)
+        if (!poll_points(&reader->source, reader->runs[i].first, reader->runs[i].count, table))
+            return false;
+    printf(POINT_HEADINGS "\n");
+    for (int i = 0; i < reader->run_count; i++)
+        write_points(stdout, table, reader->runs[i].first, reader->runs[i].count);
+    return true;
+}
+
+static bool is_digit(char c)
+{
+    return '0' <= c && c <= '9';
+}
+
 /* FILE or FILE=CSV. */
 static void add_reading(struct reader *reader, const char *word)
 {
     char *end;
     unsigned long number = strtoul(word, &end, 10);
-    if (word[0] < '0' || word[0] > '9' || number < 1 || number > ALL_FILES || (*end != 0 && *end != '=') || strcmp(end, "=") == 0)
+    if (!is_digit(word[0]) || number < 1 || number > ALL_FILES || (*end != 0 && *end != '=') || strcmp(end, "=") == 0)
         misused("`%s` is no FILE or FILE=CSV; files are 1-11", word);
     for (int i = 0; i < reader->count; i++)
         if (reader->readings[i].file.number == number || reader->readings[i].path == NULL || *end == 0)
@@ -341,12 +375,53 @@ static void add_reading(struct reader *reader, const char *word)
     reading->path = *end == '=' ? end + 1 : NULL;
 }
 
+/* POINT or FIRST-LAST. */
+static void add_run(struct reader *reader, const char *word)
+{
+    char *end = NULL;
+    unsigned long first = is_digit(word[0]) ? strtoul(word, &end, 10) : 0, last = first;
+    if (end != NULL && *end == '-' && is_digit(end[1]))
+        last = strtoul(end + 1, &end, 10);
+    struct windrow_row row = windrow_row_of(first <= UINT16_MAX ? (uint32_t)first : 0);
+    if (row.kind == WINDROW_NONE || *end != 0 || last < first || last > row.last)
+        misused("`%s` is no POINT of the live table or FIRST-LAST within a row of it", word);
+    if (reader->run_count == MOST_RUNS)
+        misused("points can be given %d times at most", MOST_RUNS);
+    struct run run = {(uint32_t)first, (uint32_t)(last - first + 1)};
+    reader->runs[reader->run_count++] = run;
+}
+
+static void add_all_rows(struct reader *reader)
+{
+    static const uint16_t firsts[] = {WINDROW_FIRST_FLAG,  WINDROW_FIRST_INT16, WINDROW_FIRST_TEXT8,
+                                      WINDROW_FIRST_INT32, WINDROW_FIRST_FLOAT, WINDROW_FIRST_TEXT16};
+    for (size_t i = 0; i < sizeof firsts / sizeof firsts[0]; i++) {
+        struct run run = {firsts[i], windrow_row_of(firsts[i]).last - firsts[i] + 1u};
+        reader->runs[reader->run_count++] = run;
+    }
+}
+
+/* What is to be read: the words from number `from` on. */
+static void take_words(struct reader *reader, char **words, int from, int last)
+{
+    for (int i = from; i <= last; i++) {
+        if (reader->live)
+            add_run(reader, words[i]);
+        else
+            add_reading(reader, words[i]);
+    }
+    if (reader->live && reader->run_count == 0)
+        add_all_rows(reader);
+    if (reader->follow && reader->count == 0)
+        misused("--follow wants a FILE");
+}
+
 static void parse(struct reader *reader, int count, char **words)
 {
     const char *every = "200", *wait = "1000", *tries = "3";
     const struct known_option known[] = {
-        {"--follow", NULL, &reader->follow}, {"--every", &every, NULL}, {"--wait", &wait, NULL}, {"--tries", &tries, NULL},
-        {NULL, NULL, NULL},
+        {"--follow", NULL, &reader->follow}, {"--every", &every, NULL},       {"--wait", &wait, NULL},
+        {"--tries", &tries, NULL},           {"--live", NULL, &reader->live}, {NULL, NULL, NULL},
     };
     const char *const pages[] = {help, settings_help, NULL};
     int plain = options_take(count, words, known, pages);
@@ -356,10 +431,7 @@ static void parse(struct reader *reader, int count, char **words)
     reader->wait_ms = (int)option_whole("--wait", wait, 1, 3600000);
     reader->source.tries = (int)option_whole("--tries", tries, 1, 100);
     settings_read(&reader->settings, words[2]);
-    for (int i = 3; i <= plain; i++)
-        add_reading(reader, words[i]);
-    if (reader->follow && reader->count == 0)
-        misused("--follow wants a FILE");
+    take_words(reader, words, 3, plain);
     if (reader->settings.unit < WINDROW_LEAST_UNIT || reader->settings.unit > WINDROW_MOST_UNIT)
         give_up("%s: unit %lu is not 1-247", words[2], (unsigned long)reader->settings.unit);
     reader->source.unit = (uint8_t)reader->settings.unit;
@@ -390,7 +462,7 @@ int main(int count, char **words)
     atexit(remove_unfinished);
     for (int i = 0; i < reader.count; i++)
         open_output(&reader.readings[i]);
-    bool fine = reader.count == 0 ? write_registers(&reader) : look(&reader);
+    bool fine = reader.live ? write_live(&reader) : reader.count == 0 ? write_registers(&reader) : look(&reader);
     if (fine && reader.follow)
         fine = follow(&reader);
     finish_output();

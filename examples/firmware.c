@@ -1,6 +1,7 @@
 /*
  * The smallest firmware: a gateway whose file 1 keeps 96 records, one for each time that the turner starts (point 1801 comes on).
- * It scans four times and answers a poll. In place of probes, a clock and a serial line it has their numbers.
+ * It scans five times and answers two polls, of a record and of what a probe reads now. In place of probes, a clock and a serial
+ * line it has their numbers.
  */
 #include <stdio.h>
 
@@ -46,12 +47,13 @@ static bool cycle(bool turner, int16_t degrees, struct windrow_stamp now)
            && done("scan", windrow_scan(&state, archive, sizeof archive, table, sizeof table, now));
 }
 
-/* Answers a frame that came over the line; here the reply is printed. */
+/* Answers a frame that came over the line, live points out of the table; here the reply is printed. */
 static bool answer(const uint8_t *frame, size_t length)
 {
     uint8_t reply[WINDROW_LEAST_REPLY];
     uint32_t to_send;
-    if (!done("poll", windrow_poll(&state, archive, sizeof archive, frame, length, reply, sizeof reply, &to_send)))
+    if (!done("poll", windrow_poll(&state, archive, sizeof archive, table, sizeof table, frame, length, reply, sizeof reply,
+                                   &to_send)))
         return false;
     printf("reply:");
     for (uint32_t i = 0; i < to_send; i++)
@@ -63,14 +65,15 @@ static bool answer(const uint8_t *frame, size_t length)
 int main(void)
 {
     static const uint16_t past_the_row[WINDROW_GROUP_NUMBERS] = {7228, 2}, one_reading[WINDROW_GROUP_NUMBERS] = {DEGREES, 1};
-    static const int16_t degrees[] = {61, 62, 58, -5};
-    static const uint8_t frame[] = {0x11, 0x03, 0x02, 0xD1, 0x00, 0x02, 0x97, 0x1A}; /* unit 17, 03 on 721: file 1, record 2 */
+    static const int16_t degrees[] = {61, 62, 58, -5, 57};
+    static const uint8_t record[] = {0x11, 0x03, 0x02, 0xD1, 0x00, 0x02, 0x97, 0x1A}; /* unit 17, 03 on 721: file 1, record 2 */
+    static const uint8_t live[] = {0x11, 0x03, 0x0B, 0xB9, 0x00, 0x01, 0x55, 0x5B};   /* unit 17, 03 on 3001: one point */
     if (begin(past_the_row) || !begin(one_reading)) /* 7228 is the last float, so that two from there on are refused */
         return 1;
-    for (uint8_t i = 0; i < 4; i++) {
+    for (uint8_t i = 0; i < 5; i++) {
         struct windrow_stamp now = {8, 29, 7, 11, 36, (uint8_t)(50 + i)};
         if (!cycle(i % 2 == 1, degrees[i], now))
             return 1;
     }
-    return answer(frame, sizeof frame) ? 0 : 1;
+    return answer(record, sizeof record) && answer(live, sizeof live) ? 0 : 1;
 }

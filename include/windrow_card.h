@@ -14,7 +14,7 @@ enum windrow_card {
     WINDROW_FOREIGN = 2,  /* a state in which running and unlocked are both on, a definition, trigger or slot is against its rule,
                              the layout exceeds the archive, a pointer or requested number is over n, or the unit is not 1-247, as
                              in the zeros of a refused fresh; fresh: the unit */
-    WINDROW_TABLE = 3,    /* the live table is not 1,424 bytes */
+    WINDROW_TABLE = 3,    /* the live table that a scan or a poll is lent is not 1,424 bytes */
     WINDROW_CLOCK = 4,    /* the stamp is no date from 2000 to 2099 or no time: windrow_stamp.h */
     WINDROW_FILE = 5,     /* the file is not 1-10 */
     WINDROW_LOCKED = 6,   /* define while not unlocked */
@@ -42,9 +42,11 @@ static inline const char *windrow_card_word(uint32_t number)
 
 /* Exceptions: the third byte of a reply of 5 bytes, whose function has its highest bit set. A gateway answers these three. */
 enum windrow_exception {
-    WINDROW_ILLEGAL_FUNCTION = 1, /* another function than 03 and 06 */
-    WINDROW_ILLEGAL_ADDRESS = 2,  /* no such address, or registers past the last */
-    WINDROW_ILLEGAL_VALUE = 3     /* a frame that is not of 8 bytes; a record's number not 1 to n; 0 or over 33 registers */
+    WINDROW_ILLEGAL_FUNCTION = 1, /* another function than 01, 03 and 06; of a gateway before 2.0, 01 too */
+    WINDROW_ILLEGAL_ADDRESS = 2,  /* no such address, 01 on what is no flag, 03 on a flag; registers past the last, live points
+                                     past their row */
+    WINDROW_ILLEGAL_VALUE = 3     /* a frame that is not of 8 bytes; a record's number not 1 to n; 0 or over 33 registers; 0 live
+                                     points, or over 250 bytes of them */
 };
 
 /* The Modbus standard's word for an exception; "unknown exception" for a code that a gateway never answers. */

@@ -16,7 +16,8 @@
  * call writes, an archive, a reply buffer or a state by pointer, must not overlap what else is handed in with it.
  *
  * Threads: there is no shared or global data. Calls on different states and archives may run at the same time; those on one state
- * and its archive must come one after the other.
+ * and its archive must come one after the other. Nothing may write into a live table while a scan or a poll is lent it: where
+ * probes fill one at any time, lend a copy.
  *
  * Stack: a call needs at most WINDROW_STACK_BYTES, the state that is handed over and the answer included. A reading-end call
  * needs less than 1 KiB (windrow_reader.h).
@@ -28,8 +29,9 @@
  * state's bytes are those of before and the archive's are not. Hand back no state of another format, and take its bytes back
  * through windrow_state_from_bytes, which refuses a bool that is none. The calls judge the rest of a state, but of the archive
  * only its length: damaged bytes, or those of another moment, are not noticed. A poll with a frame of 0 bytes judges a state and
- * changes nothing. Running is stored, so that no start is needed at power-up, and so are the Booleans: the first scan then
- * compares with those of before. Where state.flags.pending is on, a start would empty every file.
+ * changes nothing; it is lent a live table like any other. The table itself is in neither, so there is nothing of it to store.
+ * Running is stored, so that no start is needed at power-up, and so are the Booleans: the first scan then compares with those of
+ * before. Where state.flags.pending is on, a start would empty every file.
  */
 #ifndef WINDROW_GATEWAY_H
 #define WINDROW_GATEWAY_H
@@ -198,14 +200,25 @@ struct windrow_poll_answer {
  *   03 on 3701-3733    registers, three a file: its laid-out limit, its pointer (the record captured last), its requested number
  *   06 on 3703+3(f-1)  sets the requested number; the reply echoes the frame
  *
+ * and of the live table, 1,424 bytes, a run of points within one row, each counting as one whatever its size (windrow_points.h):
+ *
+ *   01 on 1801-1928               as many flags as the quantity says, packed eight to a byte from the first one asked
+ *   03 on a point of another row  as many points as the quantity says, as they stand in the table
+ *
+ * The table is the one that the poll is lent, whatever was scanned and whether running or not: lend the one that the probes fill.
+ * Live points are read before the first scan too, so fill it first.
+ *
  * The exception is the first that applies: WINDROW_ILLEGAL_FUNCTION to another function; WINDROW_ILLEGAL_VALUE to a frame that
- * is not of 8 bytes; WINDROW_ILLEGAL_ADDRESS to another address; WINDROW_ILLEGAL_VALUE where a record's number is not 1 to the
- * file's limit, or 0 or over 33 registers are asked for; WINDROW_ILLEGAL_ADDRESS to registers past 3733. Only a 06 changes the
- * state, and of it the requested number alone. Refused with 13 where the reply buffer has under WINDROW_LEAST_REPLY bytes; it
- * stays as lent.
+ * is not of 8 bytes; WINDROW_ILLEGAL_ADDRESS to another address, and so to 01 on what is no flag and to 03 on a flag;
+ * WINDROW_ILLEGAL_VALUE where a record's number is not 1 to the file's limit, where 0 or over 33 registers are asked for, and where
+ * 0 points are, or so many that they would have over 250 bytes, be there so many or not; WINDROW_ILLEGAL_ADDRESS to registers past
+ * 3733 and to points past their row. Only a 06 changes the state, and of it the requested number alone. Refused with 3 where the
+ * table is not of WINDROW_TABLE_BYTES and with 13 where the reply buffer has under WINDROW_LEAST_REPLY bytes, whatever the frame
+ * is, one to which there is no reply too; the buffer then stays as lent.
  */
 struct windrow_poll_answer windrow_gateway_poll(struct windrow_state state, const uint8_t *archive, size_t archive_length,
-                                                const uint8_t *frame, size_t frame_length, uint8_t *reply, size_t reply_length);
+                                                const uint8_t *table, size_t table_length, const uint8_t *frame,
+                                                size_t frame_length, uint8_t *reply, size_t reply_length);
 
 /* The bytes of a struct windrow_state. A compiler that lays it out otherwise than the library does is stopped here. */
 #define WINDROW_STATE_BYTES 1604
@@ -295,11 +308,11 @@ static inline uint32_t windrow_scan(struct windrow_state *state, uint8_t *archiv
 
 /* *to_send becomes the reply's length: that many bytes of the reply buffer are to be sent, none where it is 0 or on a refusal. */
 static inline uint32_t windrow_poll(struct windrow_state *state, const uint8_t *archive, size_t archive_length,
-                                    const uint8_t *frame, size_t frame_length, uint8_t *reply, size_t reply_length,
-                                    uint32_t *to_send)
+                                    const uint8_t *table, size_t table_length, const uint8_t *frame, size_t frame_length,
+                                    uint8_t *reply, size_t reply_length, uint32_t *to_send)
 {
-    struct windrow_poll_answer a =
-        windrow_gateway_poll(*state, archive, archive_length, frame, frame_length, reply, reply_length);
+    struct windrow_poll_answer a = windrow_gateway_poll(*state, archive, archive_length, table, table_length, frame, frame_length,
+                                                        reply, reply_length);
     *state = a.state;
     *to_send = a.length;
     return a.number;

@@ -44,10 +44,20 @@
 #define WINDROW_LONGEST_FRAME 256
 #define WINDROW_LEAST_REPLY 256
 
-/* A record's bytes start here in a reply to 03, and the CRC follows them, so that a reply is 5 bytes longer than its record. */
+/* The most bytes of data in one reply: a record's, or those of live points. */
+#define WINDROW_MOST_DATA 250
+
+/*
+ * The data starts here in a reply to 01 or 03: a record's bytes, registers or live points. The CRC follows it, so that a reply is 5
+ * bytes longer than its data.
+ */
 #define WINDROW_RECORD_AT 3
 
-/* The functions that a gateway knows. */
+/*
+ * The functions that a gateway knows: 01 reads flags of the live table, 03 other points of it and all that stands below, 06 sets a
+ * requested number. A live point's address is its number; windrow_points.h says how many of them one poll reads.
+ */
+#define WINDROW_READ_FLAGS 1
 #define WINDROW_READ 3
 #define WINDROW_WRITE 6
 

@@ -2,14 +2,14 @@
  * windrow_points.h: the live table, 1,424 bytes in six rows of points, and accessors that put a value into it and get one out.
  * windrow_reader.h and windrow_gateway.h include it.
  *
- * | kind            | points      | bytes a point | from byte |
- * |-----------------|-------------|---------------|-----------|
- * | flag            | 1801-1928   | one bit       | 0         |
- * | 16-bit signed   | 3001-3064   | 2             | 16        |
- * | text of 8       | 4001-4032   | 8             | 144       |
- * | 32-bit signed   | 5101-5164   | 4             | 400       |
- * | IEEE float      | 7101-7228   | 4             | 656       |
- * | text of 16      | 14001-14016 | 16            | 1168      |
+ * | kind            | points      | bytes a point | from byte | polled by | most in a poll |
+ * |-----------------|-------------|---------------|-----------|-----------|----------------|
+ * | flag            | 1801-1928   | one bit       | 0         | 01        | 128, all       |
+ * | 16-bit signed   | 3001-3064   | 2             | 16        | 03        | 64, all        |
+ * | text of 8       | 4001-4032   | 8             | 144       | 03        | 31 of 32       |
+ * | 32-bit signed   | 5101-5164   | 4             | 400       | 03        | 62 of 64       |
+ * | IEEE float      | 7101-7228   | 4             | 656       | 03        | 62 of 128      |
+ * | text of 16      | 14001-14016 | 16            | 1168      | 03        | 15 of 16       |
  *
  * Numbers are kept high byte first. Flag 1801 + i is bit i % 8 of byte i / 8, the lowest bit being bit 0. A float is kept bit for
  * bit, NaNs too. Two points have a meaning of their own, and every alarm record carries them: 5101 counts turner passes, 5102
@@ -17,6 +17,12 @@
  *
  * Every accessor answers whether the point is of its kind; if not, it changes nothing. Look at the answer: a value that is put to
  * no point is lost. A table is WINDROW_TABLE_BYTES bytes.
+ *
+ * A poll reads live points, as the table has them at that moment: any run within one row, from the point on that is the address.
+ * The quantity counts points, each as one whatever its size, so that a reply may have more bytes of data than twice the quantity,
+ * or fewer; it has WINDROW_MOST_DATA (250) at most. They are the bytes that a record has for a group of the same points: as they
+ * stand in the table, and flags packed afresh from the first one asked, eight to a byte, the lowest bit first, spare high bits 0.
+ * windrow_request makes the request and windrow_reply_points takes the reply (windrow_reader.h).
  */
 #ifndef WINDROW_POINTS_H
 #define WINDROW_POINTS_H
@@ -85,9 +91,31 @@ static inline struct windrow_row windrow_row_of(uint32_t point)
     return none;
 }
 
+/* The bytes that so many points of a row take in a record or in a reply: c flags (c + 7) / 8, any other c times its point's. */
+static inline size_t windrow_points_bytes(struct windrow_row row, uint32_t count)
+{
+    return row.size == 0 ? ((size_t)count + 7) / 8 : (size_t)count * row.size;
+}
+
+/* The most points of a row that one poll reads, all of them or as many as WINDROW_MOST_DATA bytes hold; 0 where it is no row. */
+static inline uint32_t windrow_most_points(struct windrow_row row)
+{
+    if (row.kind == WINDROW_NONE)
+        return 0;
+    uint32_t all = row.last - row.first + 1u;
+    uint32_t held = row.size == 0 ? 8u * WINDROW_MOST_DATA : (uint32_t)WINDROW_MOST_DATA / row.size;
+    return held < all ? held : all;
+}
+
+/* The function by which a poll reads points of a row. */
+static inline uint8_t windrow_function_for(struct windrow_row row)
+{
+    return row.kind == WINDROW_FLAG ? WINDROW_READ_FLAGS : WINDROW_READ;
+}
+
 /*
- * The bytes of a record with these groups, stamp included; 0 where a group is bad. A group of c flags takes (c + 7) / 8 bytes,
- * any other c times its point's. A record may have at most WINDROW_LONGEST_RECORD.
+ * The bytes of a record with these groups, stamp included; 0 where a group is bad. A record may have at most
+ * WINDROW_LONGEST_RECORD.
  */
 static inline size_t windrow_record_bytes(const uint16_t groups[WINDROW_GROUP_NUMBERS])
 {
@@ -99,7 +127,7 @@ static inline size_t windrow_record_bytes(const uint16_t groups[WINDROW_GROUP_NU
             continue;
         if (row.kind == WINDROW_NONE || count == 0 || first + count - 1 > row.last)
             return 0;
-        bytes += row.kind == WINDROW_FLAG ? (count + 7) / 8 : count * row.size;
+        bytes += windrow_points_bytes(row, count);
     }
     return bytes;
 }

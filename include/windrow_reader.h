@@ -11,15 +11,20 @@
  * refused with WINDROW_GARBLED (14); windrow_reply_exception tells one, windrow_reply_registers reads a reply with registers,
  * and the reply to a 06 is the request's own 8 bytes.
  *
+ * Live points (windrow_points.h says which function reads which, and how many) come without a stamp. windrow_reply_points puts
+ * them into a table of the driver's own, where the accessors get their values; the functions on a record are not for them. Those
+ * refuse a reply to 01 with 14, but a reply to 03 with live points they judge as a record: where its size is one's and its first
+ * six bytes pass for a stamp, they give wrong values and no refusal.
+ *
  * 14 is for the stamp alone where the reply has its CRC (windrow_has_crc), the unit asked, function 3, the record's size
  * (windrow_record_bytes; WINDROW_ALARM_BYTES of the alarm file) as byte count, and 5 bytes more in all. If the other date order
  * reads it, the date order given may be the wrong one. If not, leave the record out and go on with the next: it is damaged, or
  * of a gateway before 1.1, which filed days that their months lack, 30 February say; a gateway sends what it holds.
  *
- * A reply tells neither its file, its record's number, its groups nor its date order. Compare frame[0] with the unit that was
- * asked, and throw away what has come in before each request, a late reply after a time-out too. Other groups of the same size,
- * and the other date order on days 1 to 12, give wrong values and no refusal. A reply is complete with 5 bytes more than its
- * third byte says, an exception with 5, and an echo with 8. How to read a file's records oldest first says windrow_limits.h.
+ * A reply tells neither its file, its record's number, its groups, its date order nor its live points. Compare frame[0] with the
+ * unit that was asked, and throw away what has come in before each request, a late reply after a time-out too. Other groups of the
+ * same size, and the other date order on days 1 to 12, give wrong values and no refusal. A reply is complete with 5 bytes more than
+ * its third byte says, an exception with 5, and an echo with 8. How to read a file's records oldest first says windrow_limits.h.
  *
  * Nothing is allocated, kept or changed, and any length and content of groups and frame is answered. Only a bool that is neither
  * 0 nor 1 must not be handed in, and the pointers must not be null, even with a length of 0. There is no shared or global data:
@@ -109,8 +114,8 @@ static inline int32_t windrow_point_int(struct windrow_point point)
 }
 
 /*
- * Makes a request: function WINDROW_READ with a quantity, or WINDROW_WRITE with a value. windrow_limits.h has the addresses; the
- * address goes out as it is, with nothing taken off.
+ * Makes a request: function WINDROW_READ or WINDROW_READ_FLAGS with a quantity, or WINDROW_WRITE with a value. windrow_limits.h has
+ * the addresses; the address goes out as it is, with nothing taken off.
  */
 static inline void windrow_request(uint8_t request[WINDROW_REQUEST_BYTES], uint8_t unit, uint8_t function, uint16_t address,
                                    uint16_t quantity_or_value)
@@ -148,6 +153,30 @@ static inline bool windrow_reply_registers(const uint8_t *frame, size_t frame_le
         return false;
     for (size_t i = 0; i < count; i++)
         registers[i] = (uint16_t)windrow_get_bytes(&frame[WINDROW_RECORD_AT + 2 * i], 2);
+    return true;
+}
+
+/*
+ * Puts live points, `count` of them from `first` on, out of the reply to a poll of them into a table, in which nothing else
+ * changes; windrow_get_flag to windrow_get_text get their values there. False, and nothing is put, where one poll can't read these
+ * points (windrow_points.h) or this is no reply with so many bytes, by their function and with a right CRC.
+ */
+static inline bool windrow_reply_points(const uint8_t *frame, size_t frame_length, uint8_t table[WINDROW_TABLE_BYTES],
+                                        uint32_t first, uint32_t count)
+{
+    struct windrow_row row = windrow_row_of(first);
+    if (count < 1 || count > windrow_most_points(row) || first + count - 1 > row.last)
+        return false;
+    size_t bytes = windrow_points_bytes(row, count);
+    if (frame_length != 5 + bytes || frame[1] != windrow_function_for(row) || frame[2] != bytes
+        || !windrow_has_crc(frame, frame_length))
+        return false;
+    const uint8_t *data = &frame[WINDROW_RECORD_AT];
+    if (row.kind != WINDROW_FLAG)
+        memcpy(&table[windrow_point_at(row, first)], data, bytes);
+    else
+        for (uint32_t i = 0; i < count; i++)
+            windrow_put_flag(table, first + i, data[i / 8] >> i % 8 & 1);
     return true;
 }
 

@@ -10,11 +10,14 @@
 /*
  * A new major number: programs may have to be changed. A new minor number: there is more to use, or a call answers some input
  * otherwise than before, as CHANGELOG.md says. A new patch: only the inside differs. With each, compile and link again.
+ *
+ * 2: windrow_poll and windrow_gateway_poll take the live table too, so that firmware for 1 has to be changed where it polls. A
+ * compiler stops one that was not; the linker does not, so link no object that was compiled with headers of 1.
  */
-#define WINDROW_VERSION_MAJOR 1
-#define WINDROW_VERSION_MINOR 1
-#define WINDROW_VERSION_PATCH 1
-#define WINDROW_VERSION "1.1.1"
+#define WINDROW_VERSION_MAJOR 2
+#define WINDROW_VERSION_MINOR 0
+#define WINDROW_VERSION_PATCH 0
+#define WINDROW_VERSION "2.0.0"
 
 /* The format of struct windrow_state as bytes. Store it beside a state, and hand no state of another format to these libraries. */
 #define WINDROW_STATE_FORMAT 1

@@ -21,9 +21,9 @@ def request(unit, function, address, quantity):
     return frame(struct.pack(">BBHH", unit, function, address, quantity))
 
 
-def reply(unit, data):
-    """To 03."""
-    return frame(bytes([unit, 3, len(data)]) + bytes(data))
+def reply(unit, data, function=3):
+    """To a read."""
+    return frame(bytes([unit, function, len(data)]) + bytes(data))
 
 
 def exception(unit, code, function=3):

@@ -24,6 +24,14 @@ class GatewayCase(Case):
             self.fail(process.stderr.read())
         return process
 
+    def gateway_over(self, trace, settings, *words):
+        """A gateway that has scanned the whole trace and still answers."""
+        self.write("s", settings)
+        self.write("trace", trace)
+        gateway = self.start_gateway("s", "--trace", "trace", "--speed", "1e7", "--hold", *words)
+        self.assertIn("scanned", gateway.stdout.readline())
+        return gateway
+
     def client(self, gateway):
         client = Client(gateway.device)
         self.addCleanup(client.close)

@@ -9,8 +9,9 @@ import threading
 import time
 import tty
 
-from frames import REGISTERS, crc, register_reply
+from frames import REGISTERS, crc, exception, register_reply, reply
 from support import DEADLINE
+from traces import POLLED
 
 
 class Client:
@@ -112,9 +113,17 @@ class PlayedGateway:
             self._unplug()
 
 
+class PlaysGateways:
+    """A test in which gateways are played."""
+
+    def play(self, answer):
+        gateway = PlayedGateway(answer)
+        self.addCleanup(gateway.close)
+        return gateway
+
+
 def answers(files, records, unit=17):
     """A gateway that answers well: `files` as frames.register_reply has them, `records` by file and number."""
-    from frames import exception, reply
 
     def answer(asked, _function, address, quantity, _count):
         if asked != unit:
@@ -123,5 +132,17 @@ def answers(files, records, unit=17):
             return register_reply(unit, files)
         data = records.get((address - 720, quantity))
         return exception(unit, 3) if data is None else reply(unit, data)
+
+    return answer
+
+
+def live_answers(table, unit=17):
+    """A gateway that answers polls of live points well, of the rows that 01 and 03 read."""
+
+    def answer(asked, function, first, quantity, _count):
+        if asked != unit:
+            return b""
+        known = any(row[0] == function and row[1] <= first and first + quantity - 1 <= row[2] for row in POLLED)
+        return reply(unit, table.points(first, quantity), function) if known else exception(unit, 2, function)
 
     return answer

@@ -42,11 +42,31 @@ class Requests(FrameCase):
         self.told(FINE, request(17, 6, 3733, 5), "function 06, write one register",
                   "as a request, or as the reply that echoes it: sets file 11's requested number to 5")
 
+    def test_live_points(self):
+        for function, address, quantity, kind in ((1, 1801, 128, "flag"), (1, 1928, 1, "flag"), (3, 3001, 64, "16-bit"),
+                                                  (3, 4032, 1, "text"), (3, 5101, 2, "32-bit"), (3, 7228, 1, "float"),
+                                                  (3, 14001, 15, "text")):
+            self.told(FINE, request(17, function, address, quantity),
+                      "as a request: reads %d live points from %d on, of kind %s" % (quantity, address, kind))
+
+    def test_flags_by_function_01(self):
+        """The request of gateway.c's story, nine flags from 1803 on."""
+        self.told(FINE, "11 01 070B 0009 8E2A", "8 bytes", "unit 17", "CRC right", "function 01, read flags",
+                  "as a request: reads 9 live points from 1803 on, of kind flag")
+
+    def test_live_points_by_the_other_function(self):
+        self.told(FINE, request(17, 3, 1801, 1),
+                  "as a request: reads from address 1801, a live point of kind flag, which function 01 reads")
+        self.told(FINE, request(17, 1, 3001, 1),
+                  "as a request: reads from address 3001, a live point of kind 16-bit, which function 03 reads")
+
     def test_addresses_of_no_gateway(self):
-        for address in 700, 712, 720, 732, 750, 762, 770, 782, 3700, 3734, 0, 65535:
-            self.told(FINE, request(17, 3, address, 1),
-                      "as a request: reads from address %d, which is none of a gateway's" % address)
+        for address in 700, 712, 720, 732, 750, 762, 770, 782, 3700, 3734, 1800, 1929, 3000, 3065, 14017, 0, 65535:
+            for function in 3, 1:
+                self.told(FINE, request(17, function, address, 1),
+                          "as a request: reads from address %d, which is none of a gateway's" % address)
             self.told(FINE, request(17, 6, address, 1), "as a request: writes 1 to address %d, which can't be written" % address)
+        self.told(FINE, request(17, 6, 3001, 1), "as a request: writes 1 to address 3001, which can't be written")
 
     def test_units(self):
         self.told(FINE, request(0, 6, 3703, 1), "unit 0: to every gateway; none answers",
@@ -67,7 +87,12 @@ class Answers(FrameCase):
     ANSWERS = ((4, 721, 1, "exception 1, illegal function"), (3, 712, 1, "exception 2, illegal data address"),
                (6, 3701, 1, "exception 2, illegal data address"), (3, 3701, 0, "exception 3, illegal data value"),
                (3, 3701, 34, "exception 3, illegal data value"), (3, 3733, 2, "exception 2, illegal data address"),
-               (3, 3701, 33, "71 bytes"))
+               (3, 3701, 33, "71 bytes"), (1, 1801, 128, "21 bytes"), (1, 1802, 9, "7 bytes"), (3, 7101, 62, "253 bytes"),
+               (3, 3001, 64, "133 bytes"), (1, 1801, 129, "exception 2, illegal data address"),
+               (1, 1801, 2001, "exception 3, illegal data value"), (1, 3001, 1, "exception 2, illegal data address"),
+               (1, 701, 1, "exception 2, illegal data address"), (3, 1801, 1, "exception 2, illegal data address"),
+               (3, 4001, 32, "exception 3, illegal data value"), (3, 14001, 16, "exception 3, illegal data value"),
+               (3, 7101, 0, "exception 3, illegal data value"), (6, 3001, 1, "exception 2, illegal data address"))
 
     def test_of_any_gateway(self):
         for function, address, quantity, answer in self.ANSWERS:
@@ -93,6 +118,7 @@ class Answers(FrameCase):
         self.write("s", SETTINGS)
         self.told(FINE, request(0, 6, 3703, 4), "this gateway does not answer it, but does it", words=("--settings", "s"))
         self.told(FINE, request(0, 6, 3703, 5), "this gateway does not answer it", words=("--settings", "s"))
+        self.told(FINE, request(0, 1, 1801, 1), "this gateway does not answer it", words=("--settings", "s"))
 
 
 class Replies(FrameCase):
@@ -103,19 +129,34 @@ class Replies(FrameCase):
     def test_read(self):
         self.told(FINE, reply(17, bytes(66)), "71 bytes", "as a reply: byte count 66, and as many bytes of data")
 
+    def test_flags(self):
+        """The published reply of Simply Modbus, function 01."""
+        out = self.told(FINE, "11 01 05 CD6BB20E1B 45E6", "function 01, read flags",
+                        "as a reply: byte count 5, and as many bytes of data",
+                        "as a reply with flags, the first one first: 10110011 11010110 01001101 01110000 11011000")
+        self.assertNotIn("registers", out)
+
+    def test_damaged_flags_are_not_shown(self):
+        self.assertNotIn("with flags", self.told(TROUBLE, "11 01 05 CD6BB20E1A 45E6"))
+        self.assertNotIn("with flags", self.told(FINE, reply(17, b"", 1)))
+
     def test_of_8_bytes_may_be_both(self):
-        out = self.told(FINE, reply(17, b"\0\0\1"), "as a reply: byte count 3, and as many bytes of data")
-        self.assertIn("as a request: ", out)
+        for function in 3, 1:
+            out = self.told(FINE, reply(17, b"\0\0\1", function), "as a reply: byte count 3, and as many bytes of data")
+            self.assertIn("as a request: ", out)
+        self.assertIn("as a reply with flags, the first one first: 00000000 00000000 10000000\n", out)
 
     def test_wrong_byte_count(self):
-        self.told(TROUBLE, frame(b"\x11\x03\x0a\0\0\0\0"), "CRC right",
-                  "no request: one has 8 bytes; no reply: byte count 10 wants 15 bytes in all, and there are 9")
+        for function in b"\x03", b"\x01":
+            self.told(TROUBLE, frame(b"\x11" + function + b"\x0a\0\0\0\0"), "CRC right",
+                      "no request: one has 8 bytes; no reply: byte count 10 wants 15 bytes in all, and there are 9")
 
     def test_exceptions(self):
         for code, word in EXCEPTIONS:
             self.told(FINE, exception(17, code), "function 83, an exception",
                       "as a reply: exception %d, %s, to function 03" % (code, word))
         self.told(FINE, exception(17, 2, 6), "as a reply: exception 2, illegal data address, to function 06")
+        self.told(FINE, exception(17, 1, 1), "as a reply: exception 1, illegal function, to function 01")
 
     def test_exception_of_another_length(self):
         self.told(TROUBLE, frame(b"\x11\x83\x02\x00"), "no exception: one has 5 bytes, and this frame 6")
@@ -241,3 +282,59 @@ class Records(FrameCase):
 
     def test_bad_settings(self):
         self.expect(TROUBLE, "the settings nowhere can't be read", "frame", "11", "--settings", "nowhere", "--file", "1")
+
+
+class LivePoints(FrameCase):
+    """A reply with live points, from the point on that the user names."""
+
+    NO_REPLY = "as live points from %d on: it is no reply to %s with such points, of kind %s, and a right CRC"
+
+    def live(self, status, data, point, *lines):
+        return self.told(status, data, *lines, words=("--live", str(point)))
+
+    def rows(self, data, point):
+        """The lines behind the heading."""
+        out = self.live(FINE, data, point, "point,kind,value").splitlines()
+        return out[out.index("point,kind,value") + 1:]
+
+    def test_flags(self):
+        """The published reply of Simply Modbus, function 01: of its 37 flags it tells 40."""
+        rows = self.rows("11 01 05 CD6BB20E1B 45E6", 1801)
+        self.assertEqual(rows, ["%d,flag,%s" % (1801 + i, bit) for i, bit in enumerate("1011001111010110010011010111000011011000")])
+        self.live(FINE, "11 01 05 CD6BB20E1B 45E6", 1801, "as live points from 1801 on, 5 bytes:")
+
+    def test_flags_up_to_the_last(self):
+        self.assertEqual(self.rows(reply(17, b"\x05", 1), 1926), ["1926,flag,1", "1927,flag,0", "1928,flag,1"])
+
+    def test_kinds(self):
+        self.assertEqual(self.rows(reply(17, b"\xff\xfb\0\x07"), 3001), ["3001,16-bit,-5", "3002,16-bit,7"])
+        self.assertEqual(self.rows(reply(17, b"\xff\xff\xff\xfb"), 5164), ["5164,32-bit,-5"])
+        self.assertEqual(self.rows(reply(17, b"\x42\x5e\0\0\x7f\xc0\0\1"), 7101), ["7101,float,55.5", "7102,float,nan"])
+        self.assertEqual(self.rows(reply(17, b'a"b,\x80\0\0\0'), 4032), ['4032,text,"a""b,\\x80"'])
+        self.assertEqual(self.rows(reply(17, b"0123456789abcdef" + b"too hot".ljust(16, b"\0")), 14015),
+                         ['14015,text,"0123456789abcdef"', '14016,text,"too hot"'])
+
+    def test_no_such_points(self):
+        """Past the row, of another size, by another function, damaged, an exception, a request, nothing."""
+        for data, point in ((reply(17, bytes(4)), 3064), (reply(17, bytes(3)), 3001), (reply(17, bytes(6)), 7101),
+                            (reply(17, b"\5\1", 1), 1921), (reply(17, bytes(2)), 1801), (reply(17, bytes(2), 1), 3001),
+                            (reply(17, b""), 3001), (exception(17, 2, 1), 1801), (request(17, 1, 1801, 8), 1801)):
+            words = ("01", "flag") if point < 3000 else ("03", "float" if point > 7000 else "16-bit")
+            self.live(TROUBLE, data, point, self.NO_REPLY % (point, *words))
+
+    def test_damaged(self):
+        for text in "11 01 05 CD6BB20E1A 45E6", "11":
+            self.live(TROUBLE, text, 1801, self.NO_REPLY % (1801, "01", "flag"))
+
+    def test_is_not_answered(self):
+        self.assertNotIn("a gateway answers", self.live(TROUBLE, request(17, 3, 3001, 1), 3001))
+
+    def test_no_point(self):
+        for text, told in (("1800", "a point of the live table, not `1800`"), ("3065", "a point of the live table, not `3065`"),
+                           ("0", "a number from 1 to 65535"), ("x", "a number from 1 to 65535"), ("3001.5", "a whole number")):
+            self.expect(MISUSE, "--live takes " + told, "frame", "11", "--live", text)
+
+    def test_record_and_live_points(self):
+        self.write("s", SETTINGS)
+        self.expect(MISUSE, "a reply has a record or live points, not both", "frame", "11", "--live", "3001", "--settings", "s",
+                    "--file", "1")

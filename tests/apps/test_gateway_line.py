@@ -159,6 +159,11 @@ class Frames(GatewayCase):
 
     def test_other_unit(self):
         self.unanswered(request(18, 3, 3701, 33))
+        self.unanswered(request(18, 1, 1801, 1))
+
+    def test_broadcast_reads_are_ignored(self):
+        for function, address in (1, 1801), (3, 3001), (3, 3701), (3, 721):
+            self.unanswered(request(0, function, address, 1))
 
     def test_broadcast_06_is_done_without_an_answer(self):
         self.line.send(request(0, 6, 3703, 2))

@@ -4,7 +4,7 @@ import struct
 
 from frames import exception, frame, register_reply, reply
 from gateways import GatewayCase
-from lines import PlayedGateway, answers
+from lines import PlaysGateways, answers
 from support import FINE, MISUSE, TROUBLE, Case
 
 # File 1 has two records of a 32-bit point.
@@ -23,15 +23,10 @@ CSV = "record,stamp,5101\n1,2026-05-01T06:01:00,-1\n2,2026-05-01T06:02:00,2\n"
 good = answers(FILES, RECORDS)
 
 
-class ReadCase(Case):
+class ReadCase(PlaysGateways, Case):
     def setUp(self):
         super().setUp()
         self.write("s", SETTINGS)
-
-    def play(self, answer):
-        gateway = PlayedGateway(answer)
-        self.addCleanup(gateway.close)
-        return gateway
 
     def reads(self, answer, *words):
         """File 1 is read well in spite of all."""

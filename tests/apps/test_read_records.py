@@ -5,6 +5,7 @@ import math
 import struct
 
 import stores
+from cells import is_float, text_cell
 from gateways import GatewayCase
 from support import DEADLINE, FINE, TROUBLE
 from traces import Table, pulses, record
@@ -22,11 +23,6 @@ TEXT8S = [b"", b"NORTH", b"a,b", b'say "x"', b"\x7f\x80\xff\x01", b"back\\sl", b
 TEXT16S = [b"too hot", b'"' * 16, b"\xff" * 16, b"line\nbreak", b"zero\0inside", b",,,,,,,,,,,,,,,,", b"   spaces"]
 
 
-def text_cell(text):
-    """As csv.h has it."""
-    return "".join("\\x%02X" % byte if byte < 0x20 or byte > 0x7E or byte == 0x5C else chr(byte) for byte in text)
-
-
 def fill(i, table):
     """The i-th record's values, those of each kind in turn."""
     table.flag(1801 + i % 10).flag(1811).int16(3001, INT16S[i % 7]).int16(3002, INT16S[(i + 3) % 7]).text8(4001, TEXT8S[i % 7])
@@ -35,22 +31,7 @@ def fill(i, table):
         table.pattern(7101 + place, FLOATS[(i + 4 * place) % 11][0])
 
 
-def is_float(cell, pattern, text):
-    """A cell gives the pattern back; NaNs are alike."""
-    if text is not None:
-        return cell == text
-    return struct.pack(">f", float(cell)) == struct.pack(">I", pattern)
-
-
 class RecordsCase(GatewayCase):
-    def gateway_over(self, trace, settings):
-        """A gateway that has scanned the whole trace and still answers."""
-        self.write("s", settings)
-        self.write("trace", trace)
-        gateway = self.start_gateway("s", "--trace", "trace", "--speed", "1e7", "--hold")
-        self.assertIn("scanned", gateway.stdout.readline())
-        return gateway
-
     def rows(self, *words):
         done = self.expect(FINE, "", "read", "line", "s", *words)
         return list(csv.reader(io.StringIO(done.stdout)))

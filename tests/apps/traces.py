@@ -6,15 +6,36 @@ INT16, TEXT8, INT32, FLOAT, TEXT16 = (3001, 2, 16), (4001, 8, 144), (5101, 4, 40
 TABLE_BYTES = 1424
 RECORD_BYTES = 1430
 
+# Document 02, L3: the function by which a row is polled, its first and last point, the most points in one poll.
+POLLED = [(1, 1801, 1928, 128), (3, 3001, 3064, 64), (3, 4001, 4032, 31), (3, 5101, 5164, 62), (3, 7101, 7228, 62),
+          (3, 14001, 14016, 15)]
+
+
+def polls_of(first, last):
+    """The fewest polls that read points of one row: function, first point, quantity."""
+    function, most = next((row[0], row[3]) for row in POLLED if row[1] <= first <= last <= row[2])
+    return [(function, start, min(most, last + 1 - start)) for start in range(first, last + 1, most)]
+
+
+ALL_POLLS = [poll for _, first, last, _ in POLLED for poll in polls_of(first, last)]
+
 
 class Table:
-    def __init__(self):
-        self.bytes = bytearray(TABLE_BYTES)
+    def __init__(self, content=bytes(TABLE_BYTES)):
+        self.bytes = bytearray(content)
 
     def flag(self, point, on=True):
         byte, bit = (point - 1801) // 8, 1 << (point - 1801) % 8
         self.bytes[byte] = self.bytes[byte] | bit if on else self.bytes[byte] & ~bit
         return self
+
+    def points(self, first, count):
+        """The data of a reply with live points: as they stand, but flags are packed from the first one asked."""
+        for (start, size, at), (_, _, last, _) in zip((INT16, TEXT8, INT32, FLOAT, TEXT16), POLLED[1:]):
+            if start <= first <= last:
+                return bytes(self.bytes[at + (first - start) * size:at + (first - start + count) * size])
+        bits = int.from_bytes(self.bytes[:16], "little") >> (first - 1801) & (1 << count) - 1
+        return bits.to_bytes((count + 7) // 8, "little")
 
     def _put(self, row, point, content):
         first, size, at = row

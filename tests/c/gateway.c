@@ -1,8 +1,9 @@
 /*
  * A gateway's firmware in C: makes a gateway, defines a file, starts it, sets a trigger and an alarm slot, scans, polls, hands
  * the replies to the reading end, and is refused what the service card refuses; asserts the header's layout. Offsets and sizes
- * are worked out by hand from C's rules for x86-64, and the expected lines are written from document 01; CRCs, those of the
- * requests below too, were worked out by the bit rule in Python. Both headers and both libraries serve one program.
+ * are worked out by hand from C's rules for x86-64, and the expected lines are written from document 01, those of live points from
+ * document 02, L3; CRCs, those of the requests below too, were worked out by the bit rule in Python. Both headers and both
+ * libraries serve one program.
  */
 #include <assert.h>
 #include <stdio.h>
@@ -339,14 +340,22 @@ static struct windrow_state scans(void)
 /* A frame's bytes and their number, as two arguments. */
 #define FRAME(...) (const uint8_t[]){__VA_ARGS__}, sizeof((const uint8_t[]){__VA_ARGS__})
 
-/* Prints the reply to a frame and the requested number of file 1, and hands on the state. No other byte of the buffer changes. */
-static struct windrow_state poll(const char *what, struct windrow_state s, const uint8_t *frame, size_t length)
+/* A poll that is done. No byte of the buffer past the reply changes. */
+static struct windrow_poll_answer polled(struct windrow_state s, const uint8_t *frame, size_t length)
 {
     memset(reply, LENT, sizeof reply);
-    struct windrow_poll_answer a = windrow_gateway_poll(s, records, sizeof records, frame, length, reply, sizeof reply);
+    struct windrow_poll_answer a =
+        windrow_gateway_poll(s, records, sizeof records, live, sizeof live, frame, length, reply, sizeof reply);
     assert(a.number == WINDROW_DONE && a.length <= sizeof reply);
     for (size_t i = a.length; i < sizeof reply; i++)
         assert(reply[i] == LENT);
+    return a;
+}
+
+/* Prints the reply to a frame and the requested number of file 1, and hands on the state. */
+static struct windrow_state poll(const char *what, struct windrow_state s, const uint8_t *frame, size_t length)
+{
+    struct windrow_poll_answer a = polled(s, frame, length);
     printf("%s, requested %u:", what, a.state.line.requested[0]);
     show_bytes(reply, a.length);
     return a.state;
@@ -411,32 +420,137 @@ static struct windrow_state exceptions(struct windrow_state s)
     return poll("write a pointer", s, FRAME(0x11, 0x06, 0x0E, 0x76, 0x00, 0x01, 0xA9, 0xA8));
 }
 
+/* What no scan has seen: 1928 on, 3064 is 258, 5164 is -2, 7228 a NaN, and the first and last text of each row. */
+static void fill_rows(void)
+{
+    static const uint8_t number[] = {0x01, 0x02}, minus_two[] = {0xFF, 0xFF, 0xFF, 0xFE};
+    static const uint8_t not_a_number[] = {0x7F, 0xC0, 0x00, 0x01};
+    live[15] = 0x80;
+    memcpy(live + 142, number, sizeof number);
+    memcpy(live + 144, "NORTH", 5);
+    memcpy(live + 392, "12345678", 8);
+    memcpy(live + 652, minus_two, sizeof minus_two);
+    memcpy(live + 1164, not_a_number, sizeof not_a_number);
+    memcpy(live + 1168, "too hot", 7);
+    memcpy(live + 1408, "0123456789abcdef", 16);
+}
+
+/* A poll of a long run of points, which changes nothing of the state: its data is so many bytes of the table, from byte `at` on. */
+static void poll_run(const char *what, struct windrow_state s, size_t at, uint32_t bytes, const uint8_t *frame, size_t length)
+{
+    struct windrow_poll_answer a = polled(s, frame, length);
+    assert(a.length == bytes + 5 && memcmp(reply + 3, live + at, bytes) == 0 && memcmp(&a.state, &s, sizeof s) == 0);
+    printf("%s: %02X %02X %02X, %u bytes from %zu on, %02X %02X\n", what, reply[0], reply[1], reply[2], bytes, at,
+           reply[a.length - 2], reply[a.length - 1]);
+}
+
+static struct windrow_state live_points(struct windrow_state s)
+{
+    fill_rows();
+    s = poll("every flag", s, FRAME(0x11, 0x01, 0x07, 0x09, 0x00, 0x80, 0xEE, 0x4C));
+    s = poll("9 flags from 1803 on", s, FRAME(0x11, 0x01, 0x07, 0x0B, 0x00, 0x09, 0x8E, 0x2A));
+    s = poll("the last flag", s, FRAME(0x11, 0x01, 0x07, 0x88, 0x00, 0x01, 0x7E, 0x04));
+    poll_run("every 16-bit point", s, 16, 128, FRAME(0x11, 0x03, 0x0B, 0xB9, 0x00, 0x40, 0x95, 0x6B));
+    s = poll("the last two", s, FRAME(0x11, 0x03, 0x0B, 0xF7, 0x00, 0x02, 0x75, 0x4D));
+    s = poll("the first text of 8", s, FRAME(0x11, 0x03, 0x0F, 0xA1, 0x00, 0x01, 0xD4, 0x6C));
+    poll_run("and the 31 behind it", s, 152, 248, FRAME(0x11, 0x03, 0x0F, 0xA2, 0x00, 0x1F, 0xA4, 0x64));
+    s = poll("the first two 32-bit points", s, FRAME(0x11, 0x03, 0x13, 0xED, 0x00, 0x02, 0x52, 0x2A));
+    poll_run("and the 62 behind them", s, 408, 248, FRAME(0x11, 0x03, 0x13, 0xEF, 0x00, 0x3E, 0xF3, 0xFB));
+    s = poll("the first float", s, FRAME(0x11, 0x03, 0x1B, 0xBD, 0x00, 0x01, 0x10, 0x5A));
+    poll_run("the last 62", s, 920, 248, FRAME(0x11, 0x03, 0x1B, 0xFF, 0x00, 0x3E, 0xF0, 0x5E));
+    s = poll("the first text of 16", s, FRAME(0x11, 0x03, 0x36, 0xB1, 0x00, 0x01, 0xD9, 0x35));
+    poll_run("and the 15 behind it", s, 1184, 240, FRAME(0x11, 0x03, 0x36, 0xB2, 0x00, 0x0F, 0xA8, 0xF1));
+    return s;
+}
+
+static struct windrow_state no_live_points(struct windrow_state s)
+{
+    s = poll("function 02", s, FRAME(0x11, 0x02, 0x07, 0x09, 0x00, 0x01, 0x6A, 0x2C));
+    s = poll("nine bytes of 01 on address 0", s, FRAME(0x11, 0x01, 0x00, 0x00, 0x00, 0x01, 0x00, 0x1A, 0x40));
+    s = poll("03 on a flag", s, FRAME(0x11, 0x03, 0x07, 0x09, 0x00, 0x01, 0x57, 0xEC));
+    s = poll("01 on 3001", s, FRAME(0x11, 0x01, 0x0B, 0xB9, 0x00, 0x01, 0x2C, 0x9B));
+    s = poll("01 on 701", s, FRAME(0x11, 0x01, 0x02, 0xBD, 0x00, 0x01, 0x6E, 0xC6));
+    s = poll("01 on 1929", s, FRAME(0x11, 0x01, 0x07, 0x89, 0x00, 0x01, 0x2F, 0xC4));
+    s = poll("03 on 3065", s, FRAME(0x11, 0x03, 0x0B, 0xF9, 0x00, 0x01, 0x54, 0x8F));
+    s = poll("06 on 3001", s, FRAME(0x11, 0x06, 0x0B, 0xB9, 0x00, 0x01, 0x99, 0x5B));
+    s = poll("0 flags", s, FRAME(0x11, 0x01, 0x07, 0x09, 0x00, 0x00, 0xEF, 0xEC));
+    s = poll("129 flags", s, FRAME(0x11, 0x01, 0x07, 0x09, 0x00, 0x81, 0x2F, 0x8C));
+    s = poll("2,000 flags", s, FRAME(0x11, 0x01, 0x07, 0x09, 0x07, 0xD0, 0xEC, 0x40));
+    s = poll("2,001 flags", s, FRAME(0x11, 0x01, 0x07, 0x09, 0x07, 0xD1, 0x2D, 0x80));
+    s = poll("65 16-bit points", s, FRAME(0x11, 0x03, 0x0B, 0xB9, 0x00, 0x41, 0x54, 0xAB));
+    s = poll("126 16-bit points", s, FRAME(0x11, 0x03, 0x0B, 0xB9, 0x00, 0x7E, 0x14, 0xBB));
+    s = poll("2 from 3064 on", s, FRAME(0x11, 0x03, 0x0B, 0xF8, 0x00, 0x02, 0x45, 0x4E));
+    s = poll("0 from 3064 on", s, FRAME(0x11, 0x03, 0x0B, 0xF8, 0x00, 0x00, 0xC4, 0x8F));
+    s = poll("every text of 8", s, FRAME(0x11, 0x03, 0x0F, 0xA1, 0x00, 0x20, 0x14, 0x74));
+    s = poll("32 texts from 4002 on", s, FRAME(0x11, 0x03, 0x0F, 0xA2, 0x00, 0x20, 0xE4, 0x74));
+    s = poll("63 floats", s, FRAME(0x11, 0x03, 0x1B, 0xBD, 0x00, 0x3F, 0x91, 0x8A));
+    return poll("every text of 16", s, FRAME(0x11, 0x03, 0x36, 0xB1, 0x00, 0x10, 0x19, 0x39));
+}
+
 static struct windrow_state unanswered(struct windrow_state s)
 {
     s = poll("unit 0 requests record 2", s, FRAME(0x00, 0x06, 0x0E, 0x77, 0x00, 0x02, 0xBB, 0x28));
+    s = poll("unit 0 reads a flag", s, FRAME(0x00, 0x01, 0x07, 0x09, 0x00, 0x01, 0x2D, 0x6D));
+    s = poll("unit 0 reads 3001", s, FRAME(0x00, 0x03, 0x0B, 0xB9, 0x00, 0x01, 0x56, 0x1A));
     s = poll("unit 18 requests record 1", s, FRAME(0x12, 0x06, 0x0E, 0x77, 0x00, 0x01, 0xF8, 0x5B));
+    s = poll("unit 18 reads a flag", s, FRAME(0x12, 0x01, 0x07, 0x09, 0x00, 0x01, 0x2E, 0x1F));
     s = poll("a wrong CRC", s, FRAME(0x11, 0x06, 0x0E, 0x77, 0x00, 0x01, 0xF8, 0x69));
     return poll("no bytes", s, live, 0);
 }
 
-/* A 06 that is refused leaves the requested number and the reply buffer alone. */
-static void refuse_poll(const char *what, struct windrow_state s, size_t archive_length, size_t reply_length)
+/* The lengths of what a poll is lent. */
+struct lent {
+    size_t archive, table, reply;
+};
+
+/* A poll that is refused leaves the state, the requested number too, and the reply buffer alone. */
+static void refuse_poll(const char *what, struct windrow_state s, struct lent lent, const uint8_t *frame, size_t length)
 {
-    static const uint8_t request_1[] = {0x11, 0x06, 0x0E, 0x77, 0x00, 0x01, 0xF8, 0x68};
+    static uint8_t longer[sizeof live + 1];
     memset(reply, LENT, sizeof reply);
     struct windrow_poll_answer a =
-        windrow_gateway_poll(s, records, archive_length, request_1, sizeof request_1, reply, reply_length);
+        windrow_gateway_poll(s, records, lent.archive, longer, lent.table, frame, length, reply, lent.reply);
     for (size_t i = 0; i < sizeof reply; i++)
         assert(reply[i] == LENT);
     printf("%s: %u, length %u, the state as before %d\n", what, a.number, a.length, memcmp(&a.state, &s, sizeof s) == 0);
 }
 
+/* Table is told whatever the frame is: requests, records and live points, and what would not be answered. */
+static void refused_tables(struct windrow_state s)
+{
+    static const struct lent less = {sizeof records, sizeof live - 1, WINDROW_LEAST_REPLY};
+    static const struct lent more = {sizeof records, sizeof live + 1, WINDROW_LEAST_REPLY};
+    static const struct lent none = {sizeof records, 0, WINDROW_LEAST_REPLY};
+    refuse_poll("request with a table of a byte less", s, less, FRAME(0x11, 0x06, 0x0E, 0x77, 0x00, 0x01, 0xF8, 0x68));
+    refuse_poll("record with a byte more", s, more, FRAME(0x11, 0x03, 0x02, 0xD1, 0x00, 0x02, 0x97, 0x1A));
+    refuse_poll("flags with no table", s, none, FRAME(0x11, 0x01, 0x07, 0x09, 0x00, 0x80, 0xEE, 0x4C));
+    refuse_poll("an exception with a byte less", s, less, FRAME(0x11, 0x02, 0x07, 0x09, 0x00, 0x01, 0x6A, 0x2C));
+    refuse_poll("a wrong CRC with a byte less", s, less, FRAME(0x11, 0x06, 0x0E, 0x77, 0x00, 0x01, 0xF8, 0x69));
+    refuse_poll("unit 18 with a byte more", s, more, FRAME(0x12, 0x01, 0x07, 0x09, 0x00, 0x01, 0x2E, 0x1F));
+    refuse_poll("unit 0 requests with a byte less", s, less, FRAME(0x00, 0x06, 0x0E, 0x77, 0x00, 0x01, 0xFB, 0x29));
+    refuse_poll("no bytes and no table", s, none, live, 0);
+}
+
 static void refused_polls(struct windrow_state s)
 {
-    refuse_poll("poll into a byte less", s, sizeof records, WINDROW_LEAST_REPLY - 1);
-    refuse_poll("poll over a byte less too", s, sizeof records - 1, WINDROW_LEAST_REPLY - 1);
+    static const uint8_t request_1[] = {0x11, 0x06, 0x0E, 0x77, 0x00, 0x01, 0xF8, 0x68};
+    struct lent lent = {sizeof records, sizeof live, WINDROW_LEAST_REPLY - 1};
+    refuse_poll("poll into a byte less", s, lent, request_1, sizeof request_1);
+    refused_tables(s);
+    lent.table--;
+    refuse_poll("poll into a byte less, with a table of a byte less", s, lent, request_1, sizeof request_1);
+    lent.archive--;
+    refuse_poll("poll over a byte less too", s, lent, request_1, sizeof request_1);
+    lent.archive++;
     s.line.requested[0] = 3;
-    refuse_poll("poll of a damaged state", s, sizeof records, WINDROW_LEAST_REPLY - 1);
+    refuse_poll("poll of a damaged state", s, lent, request_1, sizeof request_1);
+}
+
+/* The table that is lent is read, whatever was scanned. */
+static void poll_unscanned(void)
+{
+    struct windrow_state s = told("fresh", windrow_gateway_fresh(false, 17, records, sizeof records));
+    poll("3001 before any scan", s, FRAME(0x11, 0x03, 0x0B, 0xB9, 0x00, 0x01, 0x55, 0x5B));
 }
 
 int main(void)
@@ -445,6 +559,7 @@ int main(void)
     stopped_and_damaged(trigger_and_slot(one_bare_stamp()));
     no_room();
     refused_fresh();
-    refused_polls(unanswered(exceptions(polls(scans()))));
+    refused_polls(unanswered(no_live_points(live_points(exceptions(polls(scans()))))));
+    poll_unscanned();
     return 0;
 }

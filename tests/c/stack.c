@@ -40,6 +40,8 @@ static struct windrow_stamp_answer when;
 static struct windrow_point point;
 static struct windrow_alarm_answer logged;
 static uint16_t crc;
+static uint8_t taken[WINDROW_TABLE_BYTES];
+static bool is_taken;
 
 /* Each call by itself, with arguments that take it through all its work. */
 static void fresh(void) { answer = windrow_gateway_fresh(false, 17, archive, sizeof archive); }
@@ -53,7 +55,7 @@ static void alarm(void) { answer = windrow_gateway_alarm(state, archive, sizeof 
 static void scan(void) { answer = windrow_gateway_scan(state, archive, sizeof archive, live, sizeof live, stamp); }
 static void poll(void)
 {
-    polled = windrow_gateway_poll(state, archive, sizeof archive, request, sizeof request, frame, sizeof frame);
+    polled = windrow_gateway_poll(state, archive, sizeof archive, live, sizeof live, request, sizeof request, frame, sizeof frame);
 }
 static void record(void) { part = windrow_reader_record(floats, 32, false, frame, polled.length); }
 static void stamped(void) { when = windrow_reader_stamp(floats, 32, false, frame, polled.length); }
@@ -62,6 +64,7 @@ static void decode(void) { point = windrow_reader_point(floats, 32, false, frame
 static void check_bytes(void) { crc = windrow_reader_crc(frame, polled.length); }
 static void ask_alarm(void) { windrow_request(request, 17, WINDROW_READ, WINDROW_NUMBERED_RECORD + WINDROW_ALARM_FILE, 1); }
 static void read_alarm(void) { logged = windrow_read_alarm(false, frame, polled.length); }
+static void take_flags(void) { is_taken = windrow_reply_points(frame, polled.length, taken, WINDROW_FIRST_FLAG, 128); }
 
 /* The same with the state by pointer. */
 static void fresh_at(void) { number = windrow_fresh(&state, false, 17, archive, sizeof archive); }
@@ -75,7 +78,8 @@ static void alarm_at(void) { number = windrow_alarm(&state, archive, sizeof arch
 static void scan_at(void) { number = windrow_scan(&state, archive, sizeof archive, live, sizeof live, stamp); }
 static void poll_at(void)
 {
-    number = windrow_poll(&state, archive, sizeof archive, request, sizeof request, frame, sizeof frame, &to_send);
+    number = windrow_poll(&state, archive, sizeof archive, live, sizeof live, request, sizeof request, frame, sizeof frame,
+                          &to_send);
 }
 
 static void (*work)(void);
@@ -179,6 +183,10 @@ static void ask(const char *name, uint8_t function, uint16_t address, uint16_t q
 /* Ends with the reply that carries record 1 of file 1, as the scan captured it. */
 static void polls(void)
 {
+    ask("poll of every flag", 1, 1801, 128, 21);
+    ask("poll of flags across bytes", 1, 1802, 127, 21);
+    ask("poll of 62 floats", 3, 7101, 62, 253);
+    ask("poll of 31 texts", 3, 4001, 31, 253);
     ask("poll of 33 registers", 3, 3701, 33, 71);
     ask("poll that is an exception", 4, 721, 1, 5);
     ask("poll that sets a requested number", 6, 3703, 1, 8);
@@ -210,6 +218,10 @@ static void reader(void)
     poll();
     state = polled.state;
     measure_reader("alarm record", read_alarm, &logged.number);
+    windrow_request(request, 17, WINDROW_READ_FLAGS, WINDROW_FIRST_FLAG, 128);
+    poll();
+    measure_answerless("live points", take_flags);
+    assert(is_taken);
 }
 
 int main(void)

@@ -2,7 +2,8 @@
  * The inline functions of the headers, which stand on the proved ones. Every call of the gateway is made both ways, by pointer
  * and by value, each on a state and an archive of its own: number, state, archive and what else is answered must be the same,
  * done and refused. A state is stored and taken back. Requests are published ones; alarm records are written by hand from
- * document 01. The expected lines were written from document 01, and CRCs worked out by the bit rule in Python.
+ * document 01. The expected lines were written from document 01, those of live points from document 02, L3, and CRCs worked out by
+ * the bit rule in Python.
  */
 #include <assert.h>
 #include <stdio.h>
@@ -150,16 +151,17 @@ static void show(const uint8_t *bytes, size_t length)
     printf("\n");
 }
 
-/* A poll both ways into buffers of this length; the whole of both is compared. */
-static void poll(const char *call, const uint8_t frame[8], size_t reply_length)
+/* A poll both ways, with a table and into buffers of these lengths; the whole of both buffers is compared. */
+static void poll(const char *call, const uint8_t frame[8], size_t table_length, size_t reply_length)
 {
     uint8_t reply[WINDROW_LEAST_REPLY + 44], their_reply[sizeof reply];
     uint32_t to_send = 99;
     memset(reply, LENT, sizeof reply);
     memset(their_reply, LENT, sizeof their_reply);
-    uint32_t number = windrow_poll(&ours.state, ours.archive, ARCHIVE, frame, 8, reply, reply_length, &to_send);
+    uint32_t number =
+        windrow_poll(&ours.state, ours.archive, ARCHIVE, table, table_length, frame, 8, reply, reply_length, &to_send);
     struct windrow_poll_answer by_value =
-        windrow_gateway_poll(theirs.state, theirs.archive, ARCHIVE, frame, 8, their_reply, reply_length);
+        windrow_gateway_poll(theirs.state, theirs.archive, ARCHIVE, table, table_length, frame, 8, their_reply, reply_length);
     theirs.state = by_value.state;
     told(call, number, by_value.number, false);
     assert(to_send == by_value.length && memcmp(reply, their_reply, sizeof reply) == 0);
@@ -172,12 +174,17 @@ static void polls(void)
     static const uint8_t record_1[] = {0x11, 0x03, 0x02, 0xD1, 0x00, 0x01, 0xD7, 0x1B},
                          request_1[] = {0x11, 0x06, 0x0E, 0x77, 0x00, 0x01, 0xF8, 0x68},
                          request_3[] = {0x11, 0x06, 0x0E, 0x77, 0x00, 0x03, 0x79, 0xA9},
-                         another_unit[] = {0x12, 0x03, 0x02, 0xD1, 0x00, 0x01, 0xD7, 0x28};
-    poll("request record 1 into a byte less", request_1, WINDROW_LEAST_REPLY - 1);
-    poll("record 1", record_1, WINDROW_LEAST_REPLY);
-    poll("request record 1", request_1, WINDROW_LEAST_REPLY + 44);
-    poll("request record 3 of 2", request_3, WINDROW_LEAST_REPLY);
-    poll("another unit's", another_unit, WINDROW_LEAST_REPLY);
+                         another_unit[] = {0x12, 0x03, 0x02, 0xD1, 0x00, 0x01, 0xD7, 0x28},
+                         nine_flags[] = {0x11, 0x01, 0x07, 0x0B, 0x00, 0x09, 0x8E, 0x2A},
+                         degrees[] = {0x11, 0x03, 0x0B, 0xB9, 0x00, 0x01, 0x55, 0x5B};
+    poll("request record 1 into a byte less", request_1, sizeof table, WINDROW_LEAST_REPLY - 1);
+    poll("request record 1 with a table of a byte less", request_1, sizeof table - 1, WINDROW_LEAST_REPLY - 1);
+    poll("record 1", record_1, sizeof table, WINDROW_LEAST_REPLY);
+    poll("request record 1", request_1, sizeof table, WINDROW_LEAST_REPLY + 44);
+    poll("request record 3 of 2", request_3, sizeof table, WINDROW_LEAST_REPLY);
+    poll("another unit's", another_unit, sizeof table, WINDROW_LEAST_REPLY);
+    poll("9 flags from 1803 on", nine_flags, sizeof table, WINDROW_LEAST_REPLY);
+    poll("3001", degrees, sizeof table, WINDROW_LEAST_REPLY);
 }
 
 /* Where the five bools stand, worked out by hand as in gateway.c: day first, running, unlocked, pending, scanned. */
@@ -288,6 +295,113 @@ static void replies(void)
     printf("exception with a wrong CRC: %u\n", (unsigned)windrow_reply_exception(damaged, sizeof exception));
 }
 
+/* How each row is polled: by which function, the most points at once, their bytes. */
+static void rows(void)
+{
+    static const uint32_t firsts[] = {1801, 3001, 4001, 5101, 7101, 14001}, counts[] = {0, 1, 8, 9, 2000, 2001};
+    for (size_t i = 0; i < sizeof firsts / sizeof firsts[0]; i++) {
+        struct windrow_row row = windrow_row_of(firsts[i]);
+        uint32_t most = windrow_most_points(row);
+        printf("polls from %u on: function %u, %u points at most, %zu bytes\n", (unsigned)firsts[i], windrow_function_for(row),
+               (unsigned)most, windrow_points_bytes(row, most));
+    }
+    printf("points of no row: %u; bytes of flags:", (unsigned)windrow_most_points(windrow_row_of(3000)));
+    for (size_t i = 0; i < sizeof counts / sizeof counts[0]; i++)
+        printf(" %zu", windrow_points_bytes(windrow_row_of(1801), counts[i]));
+    printf("\n");
+}
+
+/* The published reply of Simply Modbus, function 01, with 37 flags, and that of function 03, with 6 bytes. */
+static const uint8_t flags_reply[] = {0x11, 0x01, 0x05, 0xCD, 0x6B, 0xB2, 0x0E, 0x1B, 0x45, 0xE6};
+static const uint8_t words_reply[] = {0x11, 0x03, 0x06, 0xAE, 0x41, 0x56, 0x52, 0x43, 0x40, 0x49, 0xAD};
+
+/* The flags of the published reply, put into a table of this byte: their neighbours stay. */
+static void take_flags(uint32_t first, uint32_t count, uint8_t fill)
+{
+    uint8_t taken[WINDROW_TABLE_BYTES];
+    memset(taken, fill, sizeof taken);
+    assert(windrow_reply_points(flags_reply, sizeof flags_reply, taken, first, count));
+    for (uint32_t point = WINDROW_FIRST_FLAG; point <= WINDROW_LAST_FLAG; point++) {
+        bool on = false;
+        assert(windrow_get_flag(taken, point, &on));
+        if (first <= point && point < first + count)
+            printf("%d", on);
+        else
+            assert(on == (fill != 0));
+    }
+    for (size_t i = 16; i < sizeof taken; i++)
+        assert(taken[i] == fill);
+    printf(" from %u on, over %02X\n", (unsigned)first, fill);
+}
+
+/* Points whose bytes a reply has as they stand in the table: there they are, and nothing else has changed. */
+static void take_bytes(uint32_t first, uint32_t count, size_t at, const uint8_t *frame, size_t length)
+{
+    static const uint8_t zeros[WINDROW_TABLE_BYTES];
+    uint8_t taken[WINDROW_TABLE_BYTES] = {0};
+    size_t bytes = length - 5;
+    assert(windrow_reply_points(frame, length, taken, first, count));
+    assert(memcmp(taken + at, frame + 3, bytes) == 0 && memcmp(taken, zeros, at) == 0);
+    assert(memcmp(taken + at + bytes, zeros, sizeof taken - at - bytes) == 0);
+    printf("%u from %u on:", (unsigned)count, (unsigned)first);
+    show(taken + at, bytes);
+}
+
+/* A reply that is not to a poll of these points: nothing is taken. */
+static void refuse_points(uint32_t first, uint32_t count, const uint8_t *frame, size_t length)
+{
+    static const uint8_t zeros[WINDROW_TABLE_BYTES];
+    uint8_t taken[WINDROW_TABLE_BYTES] = {0};
+    assert(!windrow_reply_points(frame, length, taken, first, count) && memcmp(taken, zeros, sizeof zeros) == 0);
+}
+
+static void refused_points(void)
+{
+    static const uint8_t exception[] = {0x11, 0x81, 0x02, 0xC0, 0x54}, no_data[] = {0x11, 0x01, 0x00, 0x20, 0x55};
+    static const uint8_t byte_more[] = {0x11, 0x01, 0x01, 0x05, 0x00, 0x8B, 0x6F};
+    static const uint8_t byte_less[] = {0x11, 0x01, 0x02, 0x05, 0x95, 0xBB};
+    static const uint8_t over_250[257] = {[0] = 0x11, [1] = 0x03, [2] = 0xFC, [255] = 0x9E, [256] = 0x49};
+    uint8_t damaged[sizeof flags_reply];
+    memcpy(damaged, flags_reply, sizeof damaged);
+    damaged[4] ^= 0x80;
+    refuse_points(1801, 32, flags_reply, sizeof flags_reply);      /* 4 bytes */
+    refuse_points(1801, 41, flags_reply, sizeof flags_reply);      /* 6 bytes */
+    refuse_points(1893, 37, flags_reply, sizeof flags_reply);      /* past 1928 */
+    refuse_points(1800, 37, flags_reply, sizeof flags_reply);      /* no row */
+    refuse_points(67337, 37, flags_reply, sizeof flags_reply);     /* 1801 in 16 bits */
+    refuse_points(1801, 37, damaged, sizeof damaged);              /* a wrong CRC */
+    refuse_points(1801, 37, flags_reply, sizeof flags_reply - 1);  /* a byte less */
+    refuse_points(1801, 37, flags_reply, 0);                       /* nothing */
+    refuse_points(1801, 1, exception, sizeof exception);           /* an exception */
+    refuse_points(1801, 0, no_data, sizeof no_data);               /* no points */
+    refuse_points(1801, UINT32_MAX, flags_reply, sizeof flags_reply);
+    refuse_points(1801, 48, words_reply, sizeof words_reply);      /* by another function */
+    refuse_points(3001, 3, flags_reply, sizeof flags_reply);
+    refuse_points(3063, 3, words_reply, sizeof words_reply);       /* past 3064 */
+    refuse_points(5101, 1, words_reply, sizeof words_reply);       /* 4 bytes, and there are 6 */
+    refuse_points(3001, 0x80000003, words_reply, sizeof words_reply);
+    refuse_points(1801, 8, byte_more, sizeof byte_more);           /* a byte count that is not the frame's */
+    refuse_points(1801, 16, byte_less, sizeof byte_less);
+    refuse_points(7101, 63, over_250, sizeof over_250);            /* more than a poll reads */
+}
+
+/* Replies to polls of live points. That with a text was written by hand. */
+static void live_points(void)
+{
+    static const uint8_t text_reply[] = {0x11, 0x03, 0x08, 0x4E, 0x4F, 0x52, 0x54, 0x48, 0x00, 0x00, 0x00, 0xD1, 0xB1};
+    take_flags(1801, 37, 0x00);
+    take_flags(1801, 37, 0xFF);
+    take_flags(1892, 37, 0xFF);
+    take_flags(1889, 40, 0xFF);
+    take_flags(1804, 33, 0x00);
+    take_bytes(3001, 3, 16, words_reply, sizeof words_reply);
+    take_bytes(3062, 3, 138, words_reply, sizeof words_reply);
+    take_bytes(4032, 1, 392, text_reply, sizeof text_reply);
+    take_bytes(5163, 2, 648, text_reply, sizeof text_reply);
+    take_bytes(7227, 2, 1160, text_reply, sizeof text_reply);
+    refused_points();
+}
+
 /* The values of points: a NaN's bits, and numbers of both signs. */
 static void values(void)
 {
@@ -313,6 +427,8 @@ int main(void)
     requests();
     alarms();
     replies();
+    rows();
+    live_points();
     values();
     return 0;
 }

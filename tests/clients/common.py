@@ -1,10 +1,10 @@
-"""What every client is tested with, over an adapter that has read, write and other.
+"""What every client is tested with, over an adapter that has read, coils, write and other.
 
-An adapter's call answers ("ok", bytes) or ("no", why). These are the whys that a gateway gives, by the names of the standard; a
-client's own, such as a reply that it will not take, are the adapter's.
+An adapter's call answers ("ok", bytes), coils a byte each, or ("no", why). These are the whys that a gateway gives, by the names
+of the standard; a client's own, such as a reply that it will not take, are the adapter's.
 """
 
-from gateway import UNIT
+from gateway import UNIT, live_flags, live_points
 
 FUNCTION = ("no", "illegal function")
 ADDRESS = ("no", "illegal data address")
@@ -73,6 +73,35 @@ def stamps(checks, client, files):
     checks.same("stamps on 750+f", seen, wanted)
 
 
+def live(checks, client):
+    """Live points of the two rows that fit any client: flags by 01 and 16-bit points by 03."""
+    most = client.most_coils
+    parts = [(first, min(most, 1929 - first)) for first in range(1801, 1929, most)]
+    checks.same(f"coils 1801-1928 by {len(parts)} polls", [client.coils(*part) for part in parts],
+                [("ok", live_flags(*part)) for part in parts])
+    parts = [(1801, 120), (1802, 9), (1803, 1), (1809, 8), (1815, 20), (1921, 8), (1928, 1)]
+    checks.same("coils in parts", [client.coils(*part) for part in parts], [("ok", live_flags(*part)) for part in parts])
+    checks.same("registers 3001-3064 at once", client.read(3001, 64), ("ok", live_points(3001, 64)))
+    parts = [(3001, 1), (3002, 62), (3064, 1)]
+    checks.same("registers 3001-3064 in parts", [client.read(*part) for part in parts],
+                [("ok", live_points(*part)) for part in parts])
+
+
+def no_live(checks, client):
+    """Live points that are none, or too many."""
+    beyond = [(1800, 1), (1929, 1), (1810, 120), (1928, 2), (3001, 1), (3701, 1), (701, 1)]
+    beyond += [(1801, count) for count in (129, 2000) if count <= client.most_coils]
+    checks.same("coils elsewhere are an illegal data address", [client.coils(*poll) for poll in beyond], [ADDRESS] * len(beyond))
+    beyond = [(1801, 1), (3000, 1), (3065, 1), (3001, 65), (3064, 2), (4033, 1), (7228, 2), (14016, 2), (3001, 125)]
+    checks.same("03 on a flag, or past a row, is an illegal data address", [client.read(*poll) for poll in beyond],
+                [ADDRESS] * len(beyond))
+    beyond = [(4001, 32), (5101, 63), (7101, 63), (7228, 125), (14001, 16)]
+    checks.same("over 250 bytes of live points are an illegal data value", [client.read(*poll) for poll in beyond],
+                [VALUE] * len(beyond))
+    seen = [client.write(3001, 1), client.read(3001, 1)]
+    checks.same("a live point can't be written", seen, [ADDRESS, ("ok", live_points(3001, 1))])
+
+
 def exceptions(checks, client, files):
     """By name. Where several could be answered, the order is document 01's."""
     functions = client.other_functions
@@ -100,6 +129,8 @@ def wrong_unit(checks, client):
 def all_can(checks, client, files):
     """What a client must be able to do."""
     registers(checks, client, files)
+    live(checks, client)
+    no_live(checks, client)
     records(checks, client, files)
     stamps(checks, client, files)
     exceptions(checks, client, files)
@@ -113,6 +144,13 @@ def unlike_quantity(files):
     return [poll for poll in polls if len(poll[2]) != 2 * poll[1]]
 
 
+def unlike_registers():
+    """Polls of live points that have not two bytes, as unlike_quantity has them. A point counts as one, whatever its size."""
+    polls = [(4001, 1), (4001, 31), (4032, 1), (5101, 1), (5102, 2), (5103, 62), (7101, 1), (7101, 62), (7227, 2), (14001, 1),
+             (14002, 15)]
+    return [(*poll, live_points(*poll)) for poll in polls]
+
+
 def refusals(checks, client, files):
     """Replies that a client which counts on twice the quantity refuses. It takes the next one: nothing is left behind."""
     polls = unlike_quantity(files)
@@ -122,6 +160,8 @@ def refusals(checks, client, files):
     checks.same("700+f: a record of 11 bytes is refused", seen, [DONE] + [client.refused] * 3)
     seen = [client.write(requested(1), 2)] + [client.read(701, quantity) for quantity in (1, 14, 16, 30)]
     checks.same("700+f: a wrong quantity is refused", seen, [DONE] + [client.refused] * 4)
+    seen = [client.read(address, quantity) for address, quantity, _ in unlike_registers()]
+    checks.same("live 32-bit points, floats and texts are refused", seen, [client.refused] * len(seen))
     checks.same("after them a record is read", client.read(701, 15), ("ok", files[1].records[2]))
 
 

@@ -2,12 +2,13 @@
  * A libmodbus master for with_libmodbus.py: with_libmodbus DEVICE polls as the lines that it reads say, a line for each:
  *
  *   03 UNIT MS ADDRESS QUANTITY    modbus_read_registers; MS is the time-out in milliseconds
+ *   01 UNIT MS ADDRESS QUANTITY    modbus_read_bits
  *   06 UNIT MS ADDRESS VALUE       modbus_write_register
- *   01, 02, 04, 16 UNIT MS ADDRESS QUANTITY    the functions that a gateway has not
+ *   02, 04, 16 UNIT MS ADDRESS QUANTITY    the functions that a gateway has not
  *   raw UNIT MS ADDRESS QUANTITY   03 as a raw request, its reply taken as it comes
  *
- * 'ok' and what was read, in hex, or 'no' and the error's name. One context serves all, so that what one reply leaves behind
- * spoils the next.
+ * 'ok' and what was read, in hex, a flag as 00 or 01, or 'no' and the error's name. One context serves all, so that what one reply
+ * leaves behind spoils the next.
  */
 #include <errno.h>
 #include <stdint.h>
@@ -70,9 +71,9 @@ static int read_raw(modbus_t *line, const struct poll *poll, uint8_t *bytes)
     return reply[2];
 }
 
-static int read_bits(modbus_t *line, const struct poll *poll)
+/* The flags that 01 or 02 reads, a byte each, and their number; -1 on an error. */
+static int read_bits(modbus_t *line, const struct poll *poll, uint8_t *bits)
 {
-    uint8_t bits[MODBUS_MAX_READ_BITS];
     return strcmp(poll->function, "01") == 0 ? modbus_read_bits(line, poll->address, poll->quantity, bits)
                                              : modbus_read_input_bits(line, poll->address, poll->quantity, bits);
 }
@@ -91,13 +92,13 @@ static int answer(modbus_t *line, const struct poll *poll, uint8_t *bytes)
         return modbus_write_registers(line, poll->address, poll->quantity, values) == poll->quantity ? 0 : -1;
     if (strcmp(poll->function, "03") == 0 || strcmp(poll->function, "04") == 0)
         return read_bytes(line, poll, bytes);
-    return read_bits(line, poll) < 0 ? -1 : 0;
+    return read_bits(line, poll, bytes);
 }
 
 static void serve(modbus_t *line)
 {
     struct poll poll;
-    uint8_t bytes[2 * MODBUS_MAX_READ_REGISTERS + CRC + HEADER];
+    uint8_t bytes[MODBUS_MAX_READ_BITS]; /* more than of any registers */
     while (scanf("%7s %d %d %d %d", poll.function, &poll.unit, &poll.ms, &poll.address, &poll.quantity) == 5) {
         errno = 0;
         int length = answer(line, &poll, bytes);

@@ -3,7 +3,8 @@
 import subprocess
 import sys
 
-from common import DONE, FUNCTION, VALUE, Checks, all_can, chances, numbers, refusals, requested, unlike_quantity
+from common import (DONE, FUNCTION, VALUE, Checks, all_can, chances, numbers, refusals, requested, unlike_quantity,
+                    unlike_registers)
 from gateway import UNIT, Gateway, expected
 
 
@@ -11,7 +12,8 @@ class Libmodbus:
     """An adapter: a line to with_libmodbus a poll."""
 
     time_out, refused, not_sent = ("no", "time-out"), ("no", "refused"), ("no", "not sent")
-    other_functions = ["01", "02", "04", "16"]
+    other_functions = ["02", "04", "16"]
+    most_coils = 2000
 
     def __init__(self, program, link):
         self.process = subprocess.Popen([program, link], stdin=subprocess.PIPE, stdout=subprocess.PIPE, text=True, bufsize=1)
@@ -25,6 +27,10 @@ class Libmodbus:
     def read(self, address, quantity, **how):
         """03."""
         return self.poll("03", address, quantity, **how)
+
+    def coils(self, address, quantity):
+        """01."""
+        return self.poll("01", address, quantity)
 
     def write(self, address, value, **how):
         """06."""
@@ -49,12 +55,16 @@ def raw(checks, client, files):
     checks.same("raw requests read 720+f and 770+f, odd sizes and numbers over 125 too", seen, wanted)
     seen = [client.write(requested(3), 2), client.poll("raw", 703, 1), client.poll("raw", 726, 201)]
     checks.same("raw requests read an odd size on 700+f, and exceptions", seen, [DONE, ("ok", files[3].records[2]), VALUE])
+    seen = [client.poll("raw", address, quantity) for address, quantity, _ in unlike_registers()]
+    checks.same("raw requests read live 32-bit points, floats and texts", seen, [("ok", data) for *_, data in unlike_registers()])
 
 
 def own(checks, client):
     """What is libmodbus's own."""
     checks.same("over 125 registers are not asked for", [client.read(726, 126), client.read(726, 200)], [client.not_sent] * 2)
-    checks.same("0 registers are an illegal data value", [client.read(726, 0), client.read(3701, 0)], [VALUE] * 2)
+    checks.same("over 2,000 coils are not asked for", client.coils(1801, 2001), client.not_sent)
+    seen = [client.read(726, 0), client.read(3701, 0), client.coils(1801, 0)]
+    checks.same("0 registers or coils are an illegal data value", seen, [VALUE] * 3)
     seen = [client.write(requested(1), 4), client.poll("16", requested(1), 1), client.read(requested(1), 1)]
     checks.same("16 of one register is an illegal function, and sets nothing", seen, [DONE, FUNCTION, numbers(4)])
     seen = [client.write(requested(1), 3, unit=0, hasty=True), client.read(requested(1), 1)]

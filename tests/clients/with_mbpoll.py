@@ -16,7 +16,8 @@ class Mbpoll:
     """An adapter. -0 has the number go out as it is; without it, mbpoll takes 1 off. No parity, for a pseudo-terminal."""
 
     time_out, refused, not_sent = ("no", "time-out"), ("no", "refused"), ("no", "not sent")
-    other_functions = ["01", "02", "04", "16"]
+    other_functions = ["02", "04", "16"]
+    most_coils = 125
 
     def __init__(self, link):
         self.link = link
@@ -26,9 +27,9 @@ class Mbpoll:
         fixed = ["mbpoll", "-m", "rtu", "-1", "-a", str(unit), "-b", "19200", "-P", "none", "-o", "0.5" if hasty else "10"]
         done = subprocess.run(fixed + options + [self.link] + [str(value) for value in values], stdout=subprocess.PIPE,
                               stderr=subprocess.STDOUT, text=True, errors="replace", timeout=DEADLINE, check=False)
-        shown = re.findall(r"^\[\d+\]:\s+0x([0-9A-Fa-f]{4})\s*$", done.stdout, re.M)
+        shown = re.findall(r"^\[\d+\]:\s+(?:0x([0-9A-Fa-f]{4})|([01]))\s*$", done.stdout, re.M)
         if done.returncode == 0 and (shown or re.search(r"^Written \d+ reference", done.stdout, re.M)):
-            return ("ok", bytes.fromhex("".join(shown)))
+            return ("ok", bytes.fromhex("".join(word or "0" + bit for word, bit in shown)))
         for pattern, answer in WORDS:
             if not shown and re.search(rf"(fail|mbpoll:).*({pattern})", done.stdout, re.I):
                 return answer
@@ -38,15 +39,19 @@ class Mbpoll:
         """03."""
         return self.run(["-0", "-t", "4:hex", "-r", str(address), "-c", str(quantity)], **how)
 
+    def coils(self, address, quantity):
+        """01."""
+        return self.run(["-0", "-t", "0", "-r", str(address), "-c", str(quantity)])
+
     def write(self, address, value):
         """06."""
         return self.run(["-0", "-t", "4", "-r", str(address)], [value])
 
     def other(self, function):
-        """01, 02 and 04 read, and 16 is what two values are written with."""
+        """02 and 04 read, and 16 is what two values are written with."""
         if function == "16":
             return self.run(["-0", "-t", "4", "-r", "3703"], [1, 1])
-        kind = {"01": "0", "02": "1", "04": "3:hex"}[function]
+        kind = {"02": "1", "04": "3:hex"}[function]
         return self.run(["-0", "-t", kind, "-r", "3701"])
 
 
@@ -54,13 +59,15 @@ def own(checks, client, files):
     """What is mbpoll's own."""
     seen = [client.run(["-t", "4:hex", "-r", "3702"]), client.run(["-t", "4:hex", "-r", "3703"])]
     checks.same("without -0 the reference is one more", seen, [numbers(files[1].limit), numbers(files[1].pointer)])
-    checks.same("over 125 or 0 registers are not asked for", [client.read(726, 126), client.read(726, 200), client.read(726, 0)],
-                [client.not_sent] * 3)
+    seen = [client.read(726, 126), client.read(726, 200), client.read(726, 0), client.coils(1801, 126), client.coils(1801, 0)]
+    checks.same("over 125 or 0 registers or coils are not asked for", seen, [client.not_sent] * 5)
     checks.same("a broadcast can't be sent", client.run(["-0", "-r", "3703"], [2], unit=0), client.not_sent)
     seen = [client.write(requested(1), 3), client.run(["-0", "-t", "4:int", "-r", "3703"], [2]), client.read(3703, 1)]
     checks.same("32-bit values go out by 16, which the gateway has not", seen, [("ok", b""), FUNCTION, numbers(3)])
     seen = client.run(["-0", "-t", "4:float", "-B", "-r", "701", "-c", "15"])
     checks.same("-t 4:float counts values and not registers, so that the reply is refused", seen, client.refused)
+    seen = [client.run(["-0", "-t", *words, "-B", "-c", "2"]) for words in (["4:float", "-r", "7101"], ["4:int", "-r", "5101"])]
+    checks.same("-t 4:float and 4:int ask for two points a value, and refuse the reply", seen, [client.refused] * 2)
 
 
 def main():

@@ -10,7 +10,7 @@ import pymodbus
 from pymodbus.client import AsyncModbusSerialClient, ModbusSerialClient
 from pymodbus.exceptions import ModbusException
 
-from common import ADDRESS, DONE, FUNCTION, VALUE, Checks, all_can, chances, numbers, requested, unlike_quantity
+from common import ADDRESS, DONE, FUNCTION, VALUE, Checks, all_can, chances, numbers, requested, unlike_quantity, unlike_registers
 from gateway import DEADLINE, UNIT, Gateway, expected
 
 EXCEPTIONS = {1: FUNCTION, 2: ADDRESS, 3: VALUE}
@@ -26,6 +26,8 @@ def answer_of(response):
         return Pymodbus.time_out if "(0 received)" in str(response) else Pymodbus.refused
     if response.isError():
         return EXCEPTIONS.get(response.exception_code, ("no", str(response)))
+    if hasattr(response, "bits") and response.bits:
+        return ("ok", bytes(response.bits))
     return numbers(*getattr(response, "registers", []))
 
 
@@ -34,7 +36,8 @@ class Pymodbus:
 
     refused = ("no", "ModbusIOException")
     time_out = ("no", "time-out") if STRICT else refused
-    other_functions = ["01", "02", "04", "16"]
+    other_functions = ["02", "04", "16"]
+    most_coils = 2000
 
     def __init__(self, link):
         self.patient, self.hasty = (ModbusSerialClient(link, baudrate=19200, parity="N", timeout=t) for t in (10, 1))
@@ -49,6 +52,11 @@ class Pymodbus:
     def read(self, address, quantity, **how):
         """03."""
         return self.call("read_holding_registers", address, count=quantity, **how)
+
+    def coils(self, address, quantity):
+        """01. pymodbus hands on whole bytes of flags."""
+        answer = self.call("read_coils", address, count=quantity)
+        return ("ok", answer[1][:quantity]) if answer[0] == "ok" else answer
 
     def late(self, address, quantity):
         """03 that is answered only when the time-out is over. On a machine too busy for a reply within it, once more."""
@@ -67,7 +75,7 @@ class Pymodbus:
         """A function that a gateway has not."""
         if function == "16":
             return self.call("write_registers", 3703, [1, 1])
-        name = {"01": "read_coils", "02": "read_discrete_inputs", "04": "read_input_registers"}[function]
+        name = {"02": "read_discrete_inputs", "04": "read_input_registers"}[function]
         return self.call(name, 3701, count=1)
 
 
@@ -92,6 +100,9 @@ def cannot(checks, client, files):
     checks.same("replies under twice the quantity are read, after the time-out", seen, [("ok", record) for *_, record in polls])
     seen = [client.write(requested(3), 2), client.read(703, 1), client.read(703, 5), client.late(703, 6)]
     checks.same("700+f: a record of 11 bytes is refused", seen, [DONE] + [client.refused] * 3)
+    polls = unlike_registers()
+    seen = [client.read(address, quantity, hasty=not STRICT) for address, quantity, _ in polls]
+    checks.same("live 32-bit points, floats and texts are refused", seen, refused_or_right(seen, polls))
     checks.same("after them a record is read", client.read(701, 15), ("ok", files[1].records[2]))
 
 
@@ -107,9 +118,10 @@ def numbered(checks, client, files):
         def get_response_pdu_size(self):
             """None: by the reply's byte count."""
 
-    polls = unlike_quantity(files) + [(726, 200, files[6].records[200]), (731, 500, files[11].records[500])]
+    polls = unlike_quantity(files) + [(726, 200, files[6].records[200]), (731, 500, files[11].records[500])] + unlike_registers()
     seen = [answer_of(client.patient.execute(Numbered(address, quantity, unit=UNIT))) for address, quantity, _ in polls]
-    checks.same("720+f and 770+f are read with a request class of one's own", seen, [("ok", record) for *_, record in polls])
+    checks.same("720+f, 770+f and all live points are read with a request class of one's own", seen,
+                [("ok", record) for *_, record in polls])
 
 
 async def in_turn(link, polls):
@@ -127,9 +139,10 @@ async def in_turn(link, polls):
 
 def asynchronous(checks, link, files):
     """The asynchronous client goes by the reply's byte count, and so reads even sizes by number."""
-    polls = unlike_quantity(files) + [(726, 200, files[6].records[200])]
+    polls = unlike_quantity(files) + [(726, 200, files[6].records[200])] + unlike_registers()
     seen = asyncio.run(in_turn(link, polls))
-    checks.same("720+f and 770+f are read by the asynchronous client", seen, [("ok", record) for *_, record in polls])
+    checks.same("720+f, 770+f and all live points are read by the asynchronous client", seen,
+                [("ok", record) for *_, record in polls])
 
 
 async def after_odd(link):
@@ -168,6 +181,8 @@ def own(checks, client, link):
         checks.same("an odd size stops the asynchronous client: all that follows times out", seen, [True, True])
         checks.same("0 or over 125 registers are asked for, and so can be an illegal data value",
                     [client.read(726, 201), client.read(726, 0)], [VALUE] * 2)
+        checks.same("0 or over 2,000 coils are asked for, and are an illegal data value",
+                    [client.coils(1801, 0), client.coils(1801, 2001)], [VALUE] * 2)
         checks.same("a broadcast 06 is done", broadcast(client, link), numbers(3))
     try:
         parity = ModbusSerialClient(link, parity="E", timeout=1).connect()
