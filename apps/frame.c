@@ -87,7 +87,9 @@ static unsigned file_at(unsigned base, unsigned address)
 static void tell_live(uint8_t function, unsigned address, unsigned quantity)
 {
     struct windrow_row row = windrow_row_of(address);
-    if (row.kind == WINDROW_NONE)
+    if (row.kind == WINDROW_NONE && function == WINDROW_READ_FLAGS)
+        printf("as a request: reads flags from address %u on, which is none\n", address);
+    else if (row.kind == WINDROW_NONE)
         printf("as a request: reads from address %u, which is none of a gateway's\n", address);
     else if (function != windrow_function_for(row))
         printf("as a request: reads from address %u, a live point of kind %s, which function %02X reads\n", address,
@@ -280,8 +282,8 @@ static bool explain(const struct frame *frame)
 }
 
 /*
- * Whether every gateway answers a request like this, with as many bytes or the same exception: registers, live points, and what none
- * knows. Records depend on its files.
+ * Whether every gateway answers a request like this, with as many bytes or the same exception: registers, live points, and what
+ * none knows. Records depend on its files.
  */
 static bool is_answered_alike(const struct frame *frame, uint32_t exception)
 {

@@ -230,7 +230,8 @@ static bool poll_run(struct source *source, struct windrow_row row, uint32_t fir
     size_t length;
     snprintf(what, sizeof what, "points %lu-%lu", (unsigned long)first, (unsigned long)(first + count - 1));
     enum outcome outcome = ask(source, windrow_function_for(row), first, count, what, frame, &length);
-    if (outcome == REFUSED_BY_EXCEPTION && !source->quiet)
+    uint8_t before_2 = windrow_function_for(row) == WINDROW_READ ? WINDROW_ILLEGAL_ADDRESS : WINDROW_ILLEGAL_FUNCTION;
+    if (outcome == REFUSED_BY_EXCEPTION && frame[2] == before_2 && !source->quiet)
         complain("gateways before version 2.0 have no live points to read");
     if (outcome != ANSWERED)
         return false;

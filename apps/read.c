@@ -27,8 +27,9 @@ static const char help[] =
     "SETTINGS are the gateway's own: unit, date order, the files' groups, speed and parity of the line.\n"
     "\n"
     "  --live        points of the live table instead of files, a line each: point, kind and value. FIRST-LAST are points\n"
-    "                of one row of it; without any, all 432 are read, by 11 polls, each of which has the table as it is\n"
-    "                then. Of the settings it takes only unit, speed and parity. Gateways before 2.0 have none to read.\n"
+    "                of one row of it; up to 64 such words are taken. Without any, all 432 are read, by 11 polls, each of which\n"
+    "                has the table as it is then. Of the settings it takes only unit, speed and parity. Gateways before 2.0\n"
+    "                have none to read.\n"
     "  --follow      goes on with each new record, until it is interrupted (then it looks once more)\n"
     "  --every MS    how often it looks, in milliseconds (200). A file must not go round between two looks.\n"
     "  --wait MS     how long it waits for an answer (1000)\n"
@@ -404,6 +405,8 @@ static void add_all_rows(struct reader *reader)
 /* What is to be read: the words from number `from` on. */
 static void take_words(struct reader *reader, char **words, int from, int last)
 {
+    if (reader->live && reader->follow)
+        misused("--follow is for files; --live reads once");
     for (int i = from; i <= last; i++) {
         if (reader->live)
             add_run(reader, words[i]);

@@ -29,7 +29,7 @@
  * state's bytes are those of before and the archive's are not. Hand back no state of another format, and take its bytes back
  * through windrow_state_from_bytes, which refuses a bool that is none. The calls judge the rest of a state, but of the archive
  * only its length: damaged bytes, or those of another moment, are not noticed. A poll with a frame of 0 bytes judges a state and
- * changes nothing; it is lent a live table like any other. The table itself is in neither, so there is nothing of it to store.
+ * changes nothing; it is lent a live table like any other. The live table is part of neither state nor archive, and is not stored.
  * Running is stored, so that no start is needed at power-up, and so are the Booleans: the first scan then compares with those of
  * before. Where state.flags.pending is on, a start would empty every file.
  */
@@ -211,8 +211,8 @@ struct windrow_poll_answer {
  * The exception is the first that applies: WINDROW_ILLEGAL_FUNCTION to another function; WINDROW_ILLEGAL_VALUE to a frame that
  * is not of 8 bytes; WINDROW_ILLEGAL_ADDRESS to another address, and so to 01 on what is no flag and to 03 on a flag;
  * WINDROW_ILLEGAL_VALUE where a record's number is not 1 to the file's limit, where 0 or over 33 registers are asked for, and where
- * 0 points are, or so many that they would have over 250 bytes, be there so many or not; WINDROW_ILLEGAL_ADDRESS to registers past
- * 3733 and to points past their row. Only a 06 changes the state, and of it the requested number alone. Refused with 3 where the
+ * 0 points are asked for or over 250 bytes of them, even where the row has fewer; WINDROW_ILLEGAL_ADDRESS to registers past 3733
+ * and to points past their row. Only a 06 changes the state, and of it the requested number alone. Refused with 3 where the
  * table is not of WINDROW_TABLE_BYTES and with 13 where the reply buffer has under WINDROW_LEAST_REPLY bytes, whatever the frame
  * is, one to which there is no reply too; the buffer then stays as lent.
  */

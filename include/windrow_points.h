@@ -91,13 +91,13 @@ static inline struct windrow_row windrow_row_of(uint32_t point)
     return none;
 }
 
-/* The bytes that so many points of a row take in a record or in a reply: c flags (c + 7) / 8, any other c times its point's. */
+/* The bytes that so many points of a row take in a record or in a reply: (c + 7) / 8 for c flags, c times its size for others. */
 static inline size_t windrow_points_bytes(struct windrow_row row, uint32_t count)
 {
     return row.size == 0 ? ((size_t)count + 7) / 8 : (size_t)count * row.size;
 }
 
-/* The most points of a row that one poll reads, all of them or as many as WINDROW_MOST_DATA bytes hold; 0 where it is no row. */
+/* The most points of a row that one poll reads: all, or as many as WINDROW_MOST_DATA bytes hold; 0 where there is no row. */
 static inline uint32_t windrow_most_points(struct windrow_row row)
 {
     if (row.kind == WINDROW_NONE)
@@ -107,7 +107,7 @@ static inline uint32_t windrow_most_points(struct windrow_row row)
     return held < all ? held : all;
 }
 
-/* The function by which a poll reads points of a row. */
+/* The function by which a poll reads points of a row, which must be one. */
 static inline uint8_t windrow_function_for(struct windrow_row row)
 {
     return row.kind == WINDROW_FLAG ? WINDROW_READ_FLAGS : WINDROW_READ;

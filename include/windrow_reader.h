@@ -13,8 +13,8 @@
  *
  * Live points (windrow_points.h says which function reads which, and how many) come without a stamp. windrow_reply_points puts
  * them into a table of the driver's own, where the accessors get their values; the functions on a record are not for them. Those
- * refuse a reply to 01 with 14, but a reply to 03 with live points they judge as a record: where its size is one's and its first
- * six bytes pass for a stamp, they give wrong values and no refusal.
+ * refuse a reply to 01 with 14, but a reply to 03 with live points they judge as a record: where it has the record's size and its
+ * first six bytes pass for a stamp, they give wrong values and no refusal.
  *
  * 14 is for the stamp alone where the reply has its CRC (windrow_has_crc), the unit asked, function 3, the record's size
  * (windrow_record_bytes; WINDROW_ALARM_BYTES of the alarm file) as byte count, and 5 bytes more in all. If the other date order
@@ -26,7 +26,8 @@
  * same size, and the other date order on days 1 to 12, give wrong values and no refusal. A reply is complete with 5 bytes more than
  * its third byte says, an exception with 5, and an echo with 8. How to read a file's records oldest first says windrow_limits.h.
  *
- * Nothing is allocated, kept or changed, and any length and content of groups and frame is answered. Only a bool that is neither
+ * Nothing is allocated or kept, and nothing changed but the request, the registers or the table that an inline function is given
+ * to write, which must not overlap the frame. Any length and content of groups and frame is answered. Only a bool that is neither
  * 0 nor 1 must not be handed in, and the pointers must not be null, even with a length of 0. There is no shared or global data:
  * calls may run in any threads at the same time. A call needs less than 1 KiB of stack.
  *
@@ -160,6 +161,9 @@ static inline bool windrow_reply_registers(const uint8_t *frame, size_t frame_le
  * Puts live points, `count` of them from `first` on, out of the reply to a poll of them into a table, in which nothing else
  * changes; windrow_get_flag to windrow_get_text get their values there. False, and nothing is put, where one poll can't read these
  * points (windrow_points.h) or this is no reply with so many bytes, by their function and with a right CRC.
+ *
+ * Hand in the first point and the count that were asked: any reply by the same function with so many bytes is taken, a record too,
+ * and of flags any count that takes as many bytes. The accessors can't tell which points were put.
  */
 static inline bool windrow_reply_points(const uint8_t *frame, size_t frame_length, uint8_t table[WINDROW_TABLE_BYTES],
                                         uint32_t first, uint32_t count)

@@ -12,7 +12,8 @@
  * otherwise than before, as CHANGELOG.md says. A new patch: only the inside differs. With each, compile and link again.
  *
  * 2: windrow_poll and windrow_gateway_poll take the live table too, so that firmware for 1 has to be changed where it polls. A
- * compiler stops one that was not; the linker does not, so link no object that was compiled with headers of 1.
+ * compiler stops one that was not; the linker does not, so link no object that was compiled with headers of 1: most of its polls
+ * would be refused with 3 (Table).
  */
 #define WINDROW_VERSION_MAJOR 2
 #define WINDROW_VERSION_MINOR 0

@@ -62,11 +62,14 @@ class Requests(FrameCase):
 
     def test_addresses_of_no_gateway(self):
         for address in 700, 712, 720, 732, 750, 762, 770, 782, 3700, 3734, 1800, 1929, 3000, 3065, 14017, 0, 65535:
-            for function in 3, 1:
-                self.told(FINE, request(17, function, address, 1),
-                          "as a request: reads from address %d, which is none of a gateway's" % address)
+            self.told(FINE, request(17, 3, address, 1),
+                      "as a request: reads from address %d, which is none of a gateway's" % address)
             self.told(FINE, request(17, 6, address, 1), "as a request: writes 1 to address %d, which can't be written" % address)
         self.told(FINE, request(17, 6, 3001, 1), "as a request: writes 1 to address 3001, which can't be written")
+
+    def test_flags_elsewhere(self):
+        for address in 701, 721, 3701, 1800, 1929, 0, 65535:
+            self.told(FINE, request(17, 1, address, 1), "as a request: reads flags from address %d on, which is none" % address)
 
     def test_units(self):
         self.told(FINE, request(0, 6, 3703, 1), "unit 0: to every gateway; none answers",

@@ -46,7 +46,7 @@ class LiveCase(PlaysGateways, GatewayCase):
         return rows
 
     def fails(self, answer, told, *words, older=False):
-        """It is told and nothing is written; that the gateway may be an older one is told where it answers an exception."""
+        """It is told and nothing is written; that the gateway may be an older one is told where it answers as those do."""
         gateway = self.play(answer)
         done = self.expect(TROUBLE, told, "read", gateway.device, "s", "--live", *words)
         self.assertEqual((done.stdout, OLDER in done.stderr), ("", older), done.stderr)
@@ -129,7 +129,7 @@ class Answers(LiveCase):
 
     def test_exception_midway(self):
         self.fails(lambda *a: exception(17, 3) if a[2] == 7163 else self.good(*a),
-                   "points 7163-7224: the gateway answers exception 3, illegal data value", older=True)
+                   "points 7163-7224: the gateway answers exception 3, illegal data value")
 
     def test_silent(self):
         gateway = self.fails(lambda *_: b"", "points 1801-1928: no answer in time from unit 17", "--wait", "200", "--tries", "2")
@@ -204,8 +204,8 @@ class Words(LiveCase):
         self.misuse("points can be given 64 times at most", *["3001"] * 65)
 
     def test_follow(self):
-        self.misuse("--follow wants a FILE", "--follow")
-        self.misuse("--follow wants a FILE", "3001", "--follow")
+        self.misuse("--follow is for files; --live reads once", "--follow")
+        self.misuse("--follow is for files; --live reads once", "3001", "--follow")
 
     def test_live_points_without_the_option(self):
         self.expect(MISUSE, "`3001` is no FILE or FILE=CSV; files are 1-11", "read", "nowhere", "s", "3001")
