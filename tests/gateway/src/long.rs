@@ -13,7 +13,7 @@ use crate::lists::{List, NEVER};
 use crate::tally::Tally;
 
 /// The calls of a long run, but for those that lay out its files.
-pub const CALLS: usize = 8_000;
+pub const CALLS: usize = 12_000;
 /// The most bytes that files 1 to 10 are given.
 const MOST_FOR_FILES: u64 = 12_000;
 /// The calls between two layouts, on the average, in every other run; the rest keep theirs, so that small files go round hundreds
