@@ -1,6 +1,6 @@
--- Document 01, "The plain machine", with document 02, L3: its state, and what each call does to it and is answered. Nothing here knows of
--- the gateway's state. Archive memory is no part of it: View.antt works it out from the lists of captures, so that emptied lists are memory
--- all zeros. Files are counted from 0, as in the archive's Layout.antt; calls name files and slots from 1, as the paper does.
+-- Document 01, "The plain machine", with document 02, L1, L3 and L4: its state, and what each call does to it and is answered. Nothing here
+-- knows of the gateway's state. Archive memory is no part of it: View.antt works it out from the lists of captures, so that emptied lists
+-- are memory all zeros. Files are counted from 0, as in the archive's Layout.antt; calls name files and slots from 1, as the paper does.
 use mathlib.Core.Bool.{Bool, true, false, cond, not, _&&_, _||_}
 use mathlib.Core.List.{List, [], _∷_}
 use Prim.Native.Nat.{ℕ, _-_}
@@ -149,7 +149,8 @@ restarted m = record {
 }
 
 -- Scan: the first accepted scan only remembers its Booleans. A later one, if running, appends to each file with n > 0 whose trigger
--- went 0 to 1 a record of this scan's table and stamp, and slots log to the alarm file (the archive's Captures.antt and Alarms.antt)
+-- went 0 to 1 a record of this scan's table and stamp, and slots log to the alarm file, in the order of document 02, L4 (the archive's
+-- Captures.antt and Alarms.antt)
 abbrev pub listsAfter : Machine → Seen → List ℕ → Stamp → ℕ → List (List ℕ)
 listsAfter m nothing table stamp f = m .files .lists f
 listsAfter m (remembered before) table stamp f =

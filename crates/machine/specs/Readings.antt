@@ -25,7 +25,7 @@ pub record PointsTo (n c pointer : ℕ) : Type 0 where
   pub some : 1 ≤ c → pointer ≡ 1 + (c - 1) % n
 
 -- ---- record k reads as capture j, the greatest j from 1 to c with j - k divisible by n, or as zeros if there is none
--- capture j of c, the oldest number 1, of a list that has the newest first
+-- capture j of c, the oldest number 1, of a list that has the newest first; alarms of one scan are counted in the order of document 02, L4
 abbrev pub captureNumber : List (List ℕ) → ℕ → List ℕ
 captureNumber rs j = getD rs (length rs - j) []
 
