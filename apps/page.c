@@ -24,7 +24,9 @@ static const char help[] =
     "  NORTH_TURNS.csv   stamp of each turning; 14001, if there, says why\n"
     "  SOUTH_TURNS.csv   the same; 14002\n"
     "  ALARMS.csv        stamp, point, type, bit: 1805 and 1806 too hot, 1807 and 1808 short of air, north and south. Only\n"
-    "                    types 0 and 2 tell when an alarm was cleared, and so only they are taken.\n"
+    "                    types 0 and 2 tell when an alarm was cleared, and so only they are taken. Of the last five scans\n"
+    "                    that cleared alarms and raised others, every row is listed as it lies in the file; there 1811 and\n"
+    "                    1812, without the fan, have a name too. Rows behind each other with one stamp are one scan.\n"
     "Where 5102 (litres), 5103 and 5104 (passes) are in one of the first four files, their last value stands in the table.\n"
     "\n"
     "  --help            this page\n"
@@ -46,10 +48,11 @@ static const char style[] =
     "table{border-collapse:collapse;margin:4px 0 12px}th,td{border:1px solid #777;padding:4px 12px;text-align:right;"
     "vertical-align:top}\n"
     "td[colspan]{text-align:center}tbody th{font-weight:normal;text-align:left}thead th{text-align:center}\n"
+    ".order td{text-align:left;padding:2px 12px}.order tbody{border-top:2px solid #000}\n"
     ".answer{font-size:17px}\n"
     "@page{size:A4 portrait;margin:12mm}\n"
     "@media print{body{margin:0;padding:0;max-width:none;font-size:10.5pt;line-height:1.3}h1{font-size:17pt}h2{font-size:12.5pt;"
-    "margin:10px 0 2px}.answer{font-size:11pt}svg,table,.answer{break-inside:avoid}"
+    "margin:10px 0 2px}.answer{font-size:11pt}svg,table,.answer,.order{break-inside:avoid}"
     "*{-webkit-print-color-adjust:exact;print-color-adjust:exact}}\n";
 
 /* What stands below the chart about a windrow. */
@@ -62,6 +65,7 @@ struct sum {
 
 #define LAST_WEEK (7 * 86400)
 #define MOST_REASONS 8
+#define MOST_SCANS 5 /* whose alarms are listed, lest the page grows with the season */
 
 /* Why a windrow was turned, and how often. */
 struct reasons {
@@ -70,8 +74,18 @@ struct reasons {
     size_t count;
 };
 
+/* A record of the alarm file. */
+struct alarm {
+    int64_t at;
+    const char *point;
+    bool tells_clearing; /* its slot's type logs any change, and not a rise only */
+    bool raised;
+};
+
 struct season {
     struct csv_file files[5]; /* in the order of the command line */
+    struct alarm *alarms;     /* as they lie in the file */
+    size_t alarm_count;
     struct windrow windrows[WINDROWS];
     struct sum sums[WINDROWS];
     struct reasons reasons[WINDROWS];
@@ -85,6 +99,12 @@ enum { NORTH, SOUTH, NORTH_TURNS, SOUTH_TURNS, ALARMS };
 static const struct {
     const char *core, *edge, *reason, *passes, *hot, *airless;
 } points[WINDROWS] = {{"7101", "7102", "14001", "5103", "1805", "1807"}, {"7103", "7104", "14002", "5104", "1806", "1808"}};
+
+/* What the alarms of the simulated yard are called. */
+static const struct {
+    const char *point, *name;
+} alarm_names[] = {{"1805", "north too hot"},      {"1806", "south too hot"},         {"1807", "north short of air"},
+                   {"1808", "south short of air"}, {"1811", "north without the fan"}, {"1812", "south without the fan"}};
 
 static size_t need_column(const struct csv_file *file, const char *heading, const char *what)
 {
@@ -201,29 +221,40 @@ static void take_turnings(struct season *season, size_t which)
     }
 }
 
-/* The rows of an alarm's point, each pair of raised and cleared as a spell; one that was never cleared lasts to the end. */
-static void take_alarms(const struct season *season, struct spells *spells, const char *point)
+static void take_alarms(struct season *season)
 {
     const struct csv_file *file = &season->files[ALARMS];
-    size_t stamp = need_column(file, "stamp", "an alarm file"), which = need_column(file, "point", "an alarm file");
+    size_t stamp = need_column(file, "stamp", "an alarm file"), point = need_column(file, "point", "an alarm file");
     size_t type = need_column(file, "type", "an alarm file"), bit = need_column(file, "bit", "an alarm file");
-    bool raised = false;
-    spells->list = memory_for(file->count, sizeof *spells->list);
+    season->alarms = memory_for(file->count, sizeof *season->alarms);
+    season->alarm_count = file->count;
     for (size_t i = 0; i < file->count; i++) {
         double logs = number_at(file, i, type);
-        bool is_raise = number_at(file, i, bit) != 0;
-        int64_t at = time_at(file, i, stamp);
-        if (strcmp(file->rows[i].cells[which], point) != 0 || (logs != 0 && logs != 2))
+        struct alarm alarm = {time_at(file, i, stamp), file->rows[i].cells[point], logs == 0 || logs == 2,
+                              number_at(file, i, bit) != 0};
+        season->alarms[i] = alarm;
+    }
+}
+
+/* The alarms of a point, each pair of raised and cleared as a spell; one that was never cleared lasts to the end. */
+static void take_spells(const struct season *season, struct spells *spells, const char *point)
+{
+    bool raised = false;
+    spells->list = memory_for(season->alarm_count, sizeof *spells->list);
+    for (size_t i = 0; i < season->alarm_count; i++) {
+        const struct alarm *alarm = &season->alarms[i];
+        if (strcmp(alarm->point, point) != 0 || !alarm->tells_clearing)
             continue;
-        if (!raised && !is_raise && spells->count > 0)
+        if (!raised && !alarm->raised && spells->count > 0)
             continue; /* another slot's row of the same change */
         if (!raised) {
-            struct spell spell = {is_raise ? at : season->from, season->to}; /* cleared first: it was raised before the season */
+            /* cleared first: it was raised before the season */
+            struct spell spell = {alarm->raised ? alarm->at : season->from, season->to};
             spells->list[spells->count++] = spell;
         }
-        if (!is_raise)
-            spells->list[spells->count - 1].to = at;
-        raised = is_raise;
+        if (!alarm->raised)
+            spells->list[spells->count - 1].to = alarm->at;
+        raised = alarm->raised;
     }
 }
 
@@ -266,9 +297,10 @@ static void read_season(struct season *season, char **paths)
     }
     if (season->from >= season->to)
         give_up("%s and %s are of one moment: there is no season to draw", season->files[NORTH].path, season->files[SOUTH].path);
+    take_alarms(season);
     for (size_t i = 0; i < WINDROWS; i++) {
-        take_alarms(season, &season->windrows[i].hot, points[i].hot);
-        take_alarms(season, &season->windrows[i].airless, points[i].airless);
+        take_spells(season, &season->windrows[i].hot, points[i].hot);
+        take_spells(season, &season->windrows[i].airless, points[i].airless);
         sum_up(season, i);
     }
     season->litres = last_count(season, "5102");
@@ -340,6 +372,66 @@ static void write_table(FILE *page, const struct season *season)
     fputs("</tbody>\n</table>\n", page);
 }
 
+/* The scan whose alarms begin at `first` ends before this one: its records lie behind each other and have one stamp. */
+static size_t end_of_scan(const struct season *season, size_t first)
+{
+    size_t end = first + 1;
+    while (end < season->alarm_count && season->alarms[end].at == season->alarms[first].at)
+        end++;
+    return end;
+}
+
+/* Whether a scan both cleared and raised alarms. */
+static bool is_mixed(const struct season *season, size_t first)
+{
+    size_t count = end_of_scan(season, first) - first, raised = 0;
+    for (size_t i = 0; i < count; i++)
+        raised += season->alarms[first + i].raised;
+    return 0 < raised && raised < count;
+}
+
+static const char *alarm_name(const char *point)
+{
+    for (size_t i = 0; i < sizeof alarm_names / sizeof alarm_names[0]; i++)
+        if (strcmp(alarm_names[i].point, point) == 0)
+            return alarm_names[i].name;
+    return "";
+}
+
+/* A scan's alarms, a row each, as they lie in the file. */
+static void write_scan(FILE *page, const struct season *season, size_t first)
+{
+    fputs("<tbody>\n", page);
+    for (size_t i = first; i < end_of_scan(season, first); i++) {
+        const struct alarm *alarm = &season->alarms[i];
+        char when[LONG_DATE_TEXT];
+        date_and_time_text(when, alarm->at);
+        fprintf(page, "<tr><td>%s</td><td>", when);
+        write_text(page, alarm->point);
+        fprintf(page, " %s</td><td>%s</td></tr>\n", alarm_name(alarm->point), alarm->raised ? "<b>raised</b>" : "cleared");
+    }
+    fputs("</tbody>\n", page);
+}
+
+/* The order of one scan's alarms, shown by the last scans that have one. */
+static void write_order(FILE *page, const struct season *season)
+{
+    size_t mixed = 0;
+    for (size_t first = 0; first < season->alarm_count; first = end_of_scan(season, first))
+        mixed += is_mixed(season, first);
+    if (mixed == 0)
+        return;
+    fputs("<section class=\"order\">\n<h2>Cleared before raised</h2>\n"
+          "<p>Of one scan the gateway files first the alarms that were cleared, then those that were raised, so that the newest "
+          "record is a standing alarm's. The last scans that did both, as they lie in the alarm file, the oldest first:</p>\n"
+          "<table>\n<thead><tr><th scope=\"col\">Stamp</th><th scope=\"col\">Point</th><th scope=\"col\">Alarm</th></tr></thead>\n",
+          page);
+    for (size_t first = 0; first < season->alarm_count; first = end_of_scan(season, first))
+        if (is_mixed(season, first) && mixed-- <= MOST_SCANS)
+            write_scan(page, season, first);
+    fputs("</table>\n</section>\n", page);
+}
+
 /* 1 where north had less of a trouble, -1 where it had more. */
 static int sign_of(double north, double south)
 {
@@ -405,6 +497,7 @@ static void write_page(FILE *page, const struct season *season)
     chart_draw(page, season->windrows, season->from, season->to);
     write_answer(page, season);
     write_table(page, season);
+    write_order(page, season);
     fputs("</body>\n</html>\n", page);
 }
 
@@ -447,6 +540,7 @@ static void free_season(struct season *season)
 {
     for (size_t i = NORTH; i <= ALARMS; i++)
         csv_free(&season->files[i]);
+    free(season->alarms);
     for (size_t i = 0; i < WINDROWS; i++) {
         free(season->windrows[i].readings);
         free(season->windrows[i].turnings);

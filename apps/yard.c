@@ -12,6 +12,8 @@ const char yard_help[] =
     "  1805 north is too hot                         1806 south is too hot\n"
     "  1807 north is short of air                    1808 south is short of air\n"
     "  1809 north is being watered                   1810 south is being watered\n"
+    "  1811 north is without the fan                 1812 south is without the fan\n"
+    "       there is one fan, moved from one to the other every third day at ten past seven\n"
     "  3001 north's oxygen, 3002 its moisture, 3003 south's oxygen, 3004 its moisture: tenths of a percent\n"
     "  3005 the air's temperature: tenths of a degree Celsius\n"
     "  4001 NORTH, 4002 SOUTH\n"
@@ -43,6 +45,10 @@ const char yard_help[] =
 #define CALENDAR_HOUR (8 * HOUR)
 #define PROBE_HOT 68.0
 #define PROBE_AIRLESS 5.0
+
+/* The one fan is at south first, and is moved every third day as work begins. What it blows is too little for the model. */
+#define FAN_DAYS 3
+#define FAN_MOVED (WORK_BEGINS + 10 * MINUTE)
 
 /* Alarms come and go at different values, lest one flickers. */
 #define HOT_ON 70.0
@@ -281,6 +287,12 @@ static int16_t tenths(double value)
     return (int16_t)lround(between(INT16_MIN, value * 10, INT16_MAX));
 }
 
+static bool is_fan_at_north(const struct yard *yard)
+{
+    int64_t days = (yard->now - FAN_MOVED) / DAY - yard->began / DAY;
+    return days / FAN_DAYS % 2 == 1;
+}
+
 static void fill_flags(const struct yard *yard, uint8_t *table)
 {
     const struct pile *north = &yard->north, *south = &yard->south;
@@ -294,6 +306,8 @@ static void fill_flags(const struct yard *yard, uint8_t *table)
     windrow_put_flag(table, 1808, south->air.alarm);
     windrow_put_flag(table, 1809, is_watering(north, yard->now));
     windrow_put_flag(table, 1810, is_watering(south, yard->now));
+    windrow_put_flag(table, 1811, !is_fan_at_north(yard));
+    windrow_put_flag(table, 1812, is_fan_at_north(yard));
 }
 
 void yard_fill(const struct yard *yard, uint8_t table[WINDROW_TABLE_BYTES])

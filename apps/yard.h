@@ -1,6 +1,6 @@
 /*
  * A simulated yard: two windrows over a season. North is turned when its probe says so (too hot, or short of air), south by the
- * calendar. The same steps give the same season every time.
+ * calendar; one fan is moved between the two. The same steps give the same season every time.
  */
 #ifndef YARD_H
 #define YARD_H

@@ -20,6 +20,10 @@ class Client:
     def __init__(self, device):
         self.fd = os.open(device, os.O_RDWR | os.O_NOCTTY)
         tty.setraw(self.fd)
+        # A read does not wait: a gateway may drop what nobody took between our seeing it and our reading it.
+        mode = termios.tcgetattr(self.fd)
+        mode[6][termios.VMIN] = 0
+        termios.tcsetattr(self.fd, termios.TCSANOW, mode)
 
     def close(self):
         os.close(self.fd)

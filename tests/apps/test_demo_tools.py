@@ -1,5 +1,8 @@
 """windrow-compare and windrow-page: the demo says that records agree only where they do, and draws only what it was given."""
-from support import FINE, MISUSE, TROUBLE
+import re
+
+import cleared_first
+from support import FINE, MISUSE, SEASON, TROUBLE
 from test_read_records import RecordsCase
 from traces import Table, pulses, record
 
@@ -7,7 +10,14 @@ SETTINGS = ("unit 17\ngap 1\nfile 1 4 5101:1 7101:1 4001:1 1801:2\ntrigger 1 180
             "at 2026-05-01T09:00:00 alarm 2 0 0 0\n")
 
 
-class Compare(RecordsCase):
+class CompareCase(RecordsCase):
+    def compare(self, status, last, *files):
+        done = self.expect(status, "", "compare", "s", "trace", *files)
+        self.assertEqual(done.stdout.splitlines()[-1], last)
+        return done.stdout
+
+
+class Compare(CompareCase):
     def setUp(self):
         """Ten rises, and before a last scan without a change two in which all is off, of dates that are refused."""
         super().setUp()
@@ -16,11 +26,6 @@ class Compare(RecordsCase):
         self.gateway_over(trace + refused + record(Table().flag(1801), 0, hour=11), SETTINGS)
         self.expect(FINE, "", "read", "line", "s", "11=alarms.csv")
         self.records = self.expect(FINE, "", "read", "line", "s", "1").stdout.splitlines(True)
-
-    def compare(self, status, last, *files):
-        done = self.expect(status, "", "compare", "s", "trace", *files)
-        self.assertEqual(done.stdout.splitlines()[-1], last)
-        return done.stdout
 
     def alarms(self, change):
         self.write("changed.csv", change(self.read("alarms.csv").decode()))
@@ -64,6 +69,69 @@ class Compare(RecordsCase):
         self.expect(MISUSE, "", "compare", "s", "trace", "12=alarms.csv")
 
 
+class CompareOrder(CompareCase):
+    """Document 02, L4, by alarms that were not read out of a gateway but worked out by hand."""
+
+    def setUp(self):
+        super().setUp()
+        self.write("s", cleared_first.SETTINGS)
+        self.write("trace", cleared_first.trace())
+
+    def compare_rows(self, rows, status, agree, differ):
+        self.write("alarms.csv", cleared_first.text([[cleared_first.HEADING], *rows]))
+        return self.compare(status, "%d records agree, %d differ" % (agree, differ), "11=alarms.csv")
+
+    def test_cleared_before_raised(self):
+        self.compare_rows(cleared_first.rows(), FINE, 12, 0)
+
+    def test_what_was_read_agrees(self):
+        self.gateway_over(cleared_first.trace(), cleared_first.SETTINGS)
+        self.expect(FINE, "", "read", "line", "s", "11=read.csv")
+        self.compare(FINE, "12 records agree, 0 differ", "11=read.csv")
+
+    def test_other_orders(self):
+        for name, key in cleared_first.WRONG_ORDERS.items():
+            with self.subTest(name):
+                rows = cleared_first.rows(cleared_first.ordered(key))
+                agree = sum(row == right for row, right in zip(rows, cleared_first.rows()))
+                self.assertLess(agree, 12)
+                self.compare_rows(rows, TROUBLE, agree, 12 - agree)
+
+    def test_order_of_before(self):
+        """By point and slot all five of scan 1 lie elsewhere; in scan 2 the fall is the lowest point's anyway."""
+        told = self.compare_rows(cleared_first.rows(cleared_first.ordered(cleared_first.WRONG_ORDERS["by point, then slot"])),
+                                 TROUBLE, 7, 5)
+        self.assertIn("file 11, row 1: in column point expected 1811, there is 1803", told)
+
+    def test_two_rows_of_one_scan_swapped(self):
+        for first in 0, 1, 2, 3, 5, 6, 7, 8:  # the rows of scan 1 are 0-4, those of scan 2 are 5-9
+            with self.subTest(first):
+                logged = list(cleared_first.LOGGED)
+                logged[first], logged[first + 1] = logged[first + 1], logged[first]
+                self.compare_rows(cleared_first.rows(logged), TROUBLE, 10, 2)
+
+    def test_across_the_end_of_the_alarm_file(self):
+        self.write("s", cleared_first.FULL_SETTINGS)
+        self.write("trace", cleared_first.full_trace())
+        rows = cleared_first.full_rows()
+        self.compare_rows(rows, FINE, 501, 0)
+        point, other = rows[499][2:], rows[500][2:]
+        rows[499][2:], rows[500][2:] = other, point
+        self.compare_rows(rows, TROUBLE, 499, 2)
+
+
+class Season(RecordsCase):
+    def test_fan_clears_one_alarm_and_raises_another(self):
+        """South has it first; it is moved three and six days later at 07:10, which is the 7th scan after six in the morning."""
+        with open(SEASON) as file:
+            self.write("s", file.read())
+        gateway = self.start_gateway("s", "--speed", "1e7", "--scans", str(6 * 144 + 7), "--hold")
+        self.assertIn("last at 2026-05-07T07:10:00", gateway.stdout.readline())
+        self.assertEqual([row[:5] for row in self.rows("11")[1:]], [
+            ["1", "2026-05-04T07:10:00", "1811", "0", "0"], ["2", "2026-05-04T07:10:00", "1812", "0", "1"],
+            ["3", "2026-05-07T07:10:00", "1812", "0", "0"], ["4", "2026-05-07T07:10:00", "1811", "0", "1"]])
+
+
 class Page(RecordsCase):
     NORTH = "record,stamp,7101,7102,7105\n1,2026-05-01T06:00:00,20.5,18,12\n2,2026-05-02T06:00:00,71.25,40,13\n"
     SOUTH = NORTH.replace("7101,7102", "7103,7104")
@@ -84,6 +152,42 @@ class Page(RecordsCase):
         for text in "<svg", "temperature, °C", "71.2", "1.5 h", "too hot", "short of air":
             self.assertIn(text, page)
         self.assertNotIn("<script", page)
+
+    def order(self, *alarms):
+        """The listed alarms of a season that has these: stamp, point and whether it was raised; None where none are listed."""
+        self.write("alarms", "stamp,point,type,bit\n" + "".join("2026-05-01T%s,%s,%d,%d\n" % alarm for alarm in alarms))
+        self.expect(FINE, "", "page", "out.html", *self.NAMES)
+        section = re.search('<section class="order">(.*)</section>', self.read("out.html").decode(), re.DOTALL)
+        return section and re.findall("<tr><td>(.*)</td><td>(.*)</td><td>(?:<b>)?([a-z]+)(?:</b>)?</td></tr>", section[1])
+
+    def test_scans_that_cleared_and_raised(self):
+        """Each as it lies in the file, be it L4's order or another, with the alarm's name if it has one."""
+        self.assertEqual(self.order(("10:00:00", "1812", 0, 0), ("10:00:00", "1811", 0, 1),
+                                    ("11:00:00", "1807", 2, 1),
+                                    ("12:00:00", "1805", 0, 1), ("12:00:00", "1805", 1, 1), ("12:00:00", "1807", 2, 0),
+                                    ("12:30:00", "1806", 0, 0), ("12:30:00", "1808", 2, 0),
+                                    ("13:00:00", "1805", 0, 0), ("13:00:00", "1850", 3, 1), ("13:00:00", "<18&50>", 3, 1)), [
+            ("1 May 2026, 10:00", "1812 south without the fan", "cleared"),
+            ("1 May 2026, 10:00", "1811 north without the fan", "raised"),
+            ("1 May 2026, 12:00", "1805 north too hot", "raised"),
+            ("1 May 2026, 12:00", "1805 north too hot", "raised"),
+            ("1 May 2026, 12:00", "1807 north short of air", "cleared"),
+            ("1 May 2026, 13:00", "1805 north too hot", "cleared"),
+            ("1 May 2026, 13:00", "1850 ", "raised"),
+            ("1 May 2026, 13:00", "&lt;18&amp;50&gt; ", "raised")])
+
+    def test_no_scan_that_cleared_and_raised(self):
+        """Nor are two scans one: a second apart, or of one time with another between them, as where a clock went back."""
+        self.assertIsNone(self.order())
+        self.assertIsNone(self.order(("10:00:00", "1805", 0, 1), ("10:00:00", "1806", 0, 1)))
+        self.assertIsNone(self.order(("10:00:00", "1805", 0, 0), ("10:00:01", "1806", 0, 1)))
+        self.assertIsNone(self.order(("10:00:00", "1805", 0, 0), ("11:00:00", "1805", 0, 1), ("10:00:00", "1806", 0, 1)))
+
+    def test_only_the_last_five_scans_that_cleared_and_raised(self):
+        alarms = [("%02d:00:00" % hour, str(1812 - bit), 0, bit) for hour in range(7, 14) for bit in (0, 1)]
+        for count, hours in (4, range(7, 11)), (5, range(7, 12)), (6, range(8, 13)), (7, range(9, 14)):
+            listed = self.order(*alarms[:2 * count], ("20:00:00", "1805", 0, 1))
+            self.assertEqual([row[0] for row in listed], ["1 May 2026, %02d:00" % hour for hour in hours for _ in "12"])
 
     def test_bad_files(self):
         """The page of before stays."""

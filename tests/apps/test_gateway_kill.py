@@ -19,7 +19,7 @@ class Season(GatewayCase):
         with open(SEASON) as file:
             settings = file.read()
         # alarms that go on and off often, so that the alarm file has records
-        self.write("s", settings.replace("2026-06-07", "2026-05-02") + "alarm 5 1801 0 7101\nalarm 6 1802 1 7103\n")
+        self.write("s", settings.replace("2026-06-07", "2026-05-02") + "alarm 7 1801 0 7101\nalarm 8 1802 1 7103\n")
 
     def finish(self, store, *words):
         self.expect(FINE, "", "gateway", "s", "--store", store, "--scans", SCANS, "--speed", "1e7", *words)

@@ -4,11 +4,12 @@ import io
 import math
 import struct
 
+import cleared_first
 import stores
 from cells import is_float, text_cell
 from gateways import GatewayCase
 from support import DEADLINE, FINE, TROUBLE
-from traces import Table, pulses, record
+from traces import RECORD_BYTES, Table, pulses, record
 
 KINDS = "unit 17\narchive 32768\ngap 1\n%sfile 1 %d 1801:10 3001:2 4001:1 5101:2 0:0 7101:3 14001:1\ntrigger 1 1801\n"
 HEADING = ["record", "stamp", *map(str, range(1801, 1811)), *"3001 3002 4001 5101 5102 7101 7102 7103 14001".split()]
@@ -153,6 +154,24 @@ class Alarms(RecordsCase):
         passes = [int(row[6]) for row in rows if row[4] == "1"]
         self.assertEqual(passes, list(range(51, 301)))
 
+    def test_cleared_before_raised(self):
+        self.gateway_over(cleared_first.trace(), cleared_first.SETTINGS)
+        self.assertEqual(self.rows("11")[1:], cleared_first.rows())
+
+    def test_cleared_before_raised_across_the_end_of_the_file(self):
+        """The last fall is record 500, and the rise of the same scan has captured over record 1."""
+        self.gateway_over(cleared_first.full_trace(), cleared_first.FULL_SETTINGS)
+        self.assertEqual(self.rows("11")[1:], cleared_first.full_rows()[1:])
+
+    def test_newest_alarm_of_a_scan_is_a_raised_one(self):
+        """What a site polls that reads only the record under the pointer: after scan 1, and after scan 2."""
+        for scans, newest in (2, cleared_first.rows()[4]), (3, cleared_first.rows()[9]):
+            gateway = self.gateway_over(cleared_first.trace()[:scans * RECORD_BYTES], cleared_first.SETTINGS)
+            self.assertEqual(self.rows()[11], ["11", "500", newest[0], "0"])
+            self.assertEqual(self.rows("11")[-1], newest)
+            self.assertEqual(newest[4], "1")
+            self.stopped(gateway)
+
 
 class Follow(RecordsCase):
     SETTINGS = "unit 17\narchive 32768\ngap 1\nscan 1\nfile 1 64 5101:1\ntrigger 1 1801\nalarm 1 1801 1 0\n"
@@ -236,3 +255,21 @@ class OldRecords(RecordsCase):
         status, _, told = self.stopped(reader)
         self.assertEqual((status, self.read("csv").decode()), (TROUBLE, self.ROWS))
         self.assertIn(self.TOLD, told)
+
+
+class OldOrder(RecordsCase):
+    """A store with alarms as gateways before 2.1 filed them, by point: they lie as they were, and new ones by L4 behind them."""
+
+    def test_read(self):
+        self.write("s", cleared_first.SETTINGS)
+        self.write("trace", cleared_first.trace())
+        words = "gateway s --trace trace --store store --speed 1e7".split()
+        self.expect(FINE, "", *words, "--scans", "2")
+        store = stores.Store.of(self.read("store"))
+        filed = [store.archive[22 * i:22 * i + 22] for i in range(5)]  # the falls of 1811, 1928 and 1928, two rises of 1803
+        store.archive[:110] = b"".join(filed[3:] + filed[:3])
+        self.write("store", store.bytes())
+        gateway = self.start_gateway(*words[1:], "--hold")
+        self.assertIn("scanned", gateway.stdout.readline())
+        logged = cleared_first.LOGGED
+        self.assertEqual(self.rows("11")[1:], cleared_first.rows(logged[3:5] + logged[:3] + logged[5:]))

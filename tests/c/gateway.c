@@ -1,9 +1,9 @@
 /*
  * A gateway's firmware in C: makes a gateway, defines a file, starts it, sets a trigger and an alarm slot, scans, polls, hands
  * the replies to the reading end, and is refused what the service card refuses; asserts the header's layout. Offsets and sizes
- * are worked out by hand from C's rules for x86-64, and the expected lines are written from document 01, those of live points from
- * document 02, L3; CRCs, those of the requests below too, were worked out by the bit rule in Python. Both headers and both
- * libraries serve one program.
+ * are worked out by hand from C's rules for x86-64, and the expected lines are written from document 01, those of live points and
+ * of the order of alarms from document 02, L3 and L4; CRCs, those of the requests below too, were worked out by the bit rule in
+ * Python. Both headers and both libraries serve one program.
  */
 #include <assert.h>
 #include <stdio.h>
@@ -553,6 +553,47 @@ static void poll_unscanned(void)
     poll("3001 before any scan", s, FRAME(0x11, 0x03, 0x0B, 0xB9, 0x00, 0x01, 0x55, 0x5B));
 }
 
+/* A gateway without files, so that its alarm file starts at byte 0. Its slots are in the order neither of points nor of types. */
+static struct windrow_state with_slots(void)
+{
+    static const struct {
+        uint32_t slot, point, type, transducer;
+    } slots[] = {{1, 1928, 2, 7101}, {2, 1803, 1, 0}, {3, 1811, 0, 0}, {4, 1928, 3, 0}, {5, 1803, 2, 7101}, {32, 1928, 0, 0}};
+    struct windrow_state s = windrow_gateway_fresh(false, 17, records, sizeof records).state;
+    for (size_t i = 0; i < sizeof slots / sizeof slots[0]; i++)
+        s = windrow_gateway_alarm(s, records, sizeof records, slots[i].slot, slots[i].point, slots[i].type, slots[i].transducer)
+                .state;
+    return told("start with slots", windrow_gateway_start(s, records, sizeof records));
+}
+
+static void show_alarms(unsigned first, unsigned last)
+{
+    for (unsigned k = first; k <= last; k++) {
+        printf("alarm %u:", k);
+        show_bytes(records + (k - 1) * ALARM, ALARM);
+    }
+}
+
+/* What falls is logged before what rises, each by point and then slot (document 02, L4); here the first such scan goes round. */
+static void cleared_before_raised(void)
+{
+    struct windrow_state s = with_slots();
+    now(false, true, 7);
+    live[15] = 0x80;
+    s = scan("1811 and 1928 on", s, 11, 50);
+    s.files.pointers[10] = 497;
+    now(true, false, 7);
+    live[15] = 0;
+    s = scan("both off, 1803 on", s, 11, 51);
+    now(false, true, 8);
+    live[15] = 0x80;
+    s = scan("both on, 1803 off", s, 11, 52);
+    show_alarms(498, 500);
+    show_alarms(1, 7);
+    printf("filled bytes past alarm 7: %u\n", filled_of(records + 7 * ALARM, 490 * ALARM));
+    printf("filled bytes past alarm 500: %u\n", filled_of(records + 500 * ALARM, sizeof records - 500 * ALARM));
+}
+
 int main(void)
 {
     check_layout();
@@ -561,5 +602,6 @@ int main(void)
     refused_fresh();
     refused_polls(unanswered(no_live_points(live_points(exceptions(polls(scans()))))));
     poll_unscanned();
+    cleared_before_raised();
     return 0;
 }
