@@ -77,8 +77,8 @@ struct reasons {
 /* A record of the alarm file. */
 struct alarm {
     int64_t at;
-    const char *point;
-    bool tells_clearing; /* its slot's type logs any change, and not a rise only */
+    const char *point, *type;
+    bool tells_clearing; /* its type logs any change, and not a rise only */
     bool raised;
 };
 
@@ -229,8 +229,9 @@ static void take_alarms(struct season *season)
     season->alarms = memory_for(file->count, sizeof *season->alarms);
     season->alarm_count = file->count;
     for (size_t i = 0; i < file->count; i++) {
+        char *const *cells = file->rows[i].cells;
         double logs = number_at(file, i, type);
-        struct alarm alarm = {time_at(file, i, stamp), file->rows[i].cells[point], logs == 0 || logs == 2,
+        struct alarm alarm = {time_at(file, i, stamp), cells[point], cells[type], logs == 0 || logs == 2,
                               number_at(file, i, bit) != 0};
         season->alarms[i] = alarm;
     }
@@ -398,9 +399,10 @@ static const char *alarm_name(const char *point)
     return "";
 }
 
-/* A scan's alarms, a row each, as they lie in the file. */
-static void write_scan(FILE *page, const struct season *season, size_t first)
+/* A scan's alarms, a row each, as they lie in the file. True where a cleared one lies behind a raised one. */
+static bool write_scan(FILE *page, const struct season *season, size_t first)
 {
+    bool turned = false;
     fputs("<tbody>\n", page);
     for (size_t i = first; i < end_of_scan(season, first); i++) {
         const struct alarm *alarm = &season->alarms[i];
@@ -408,28 +410,39 @@ static void write_scan(FILE *page, const struct season *season, size_t first)
         date_and_time_text(when, alarm->at);
         fprintf(page, "<tr><td>%s</td><td>", when);
         write_text(page, alarm->point);
-        fprintf(page, " %s</td><td>%s</td></tr>\n", alarm_name(alarm->point), alarm->raised ? "<b>raised</b>" : "cleared");
+        fprintf(page, " %s</td><td>", alarm_name(alarm->point));
+        write_text(page, alarm->type);
+        fprintf(page, "</td><td>%s</td></tr>\n", alarm->raised ? "<b>raised</b>" : "cleared");
+        turned = turned || (i > first && alarm[-1].raised && !alarm->raised);
     }
     fputs("</tbody>\n", page);
+    return turned;
 }
 
 /* The order of one scan's alarms, shown by the last scans that have one. */
 static void write_order(FILE *page, const struct season *season)
 {
     size_t mixed = 0;
+    bool turned = false;
     for (size_t first = 0; first < season->alarm_count; first = end_of_scan(season, first))
         mixed += is_mixed(season, first);
     if (mixed == 0)
         return;
     fputs("<section class=\"order\">\n<h2>Cleared before raised</h2>\n"
-          "<p>Of one scan the gateway files first the alarms that were cleared, then those that were raised, so that the newest "
-          "record is a standing alarm's. The last scans that did both, as they lie in the alarm file, the oldest first:</p>\n"
-          "<table>\n<thead><tr><th scope=\"col\">Stamp</th><th scope=\"col\">Point</th><th scope=\"col\">Alarm</th></tr></thead>\n",
+          "<p>Of one scan the gateway files first the alarms that were cleared, then those that were raised: where a scan raised "
+          "any, the newest record is one of these. The last scans that did both, as they lie in the alarm file, the oldest first:</p>\n"
+          "<table>\n<thead><tr><th scope=\"col\">Stamp</th><th scope=\"col\">Alarm</th><th scope=\"col\">Type</th>"
+          "<th scope=\"col\">Was</th></tr></thead>\n",
           page);
     for (size_t first = 0; first < season->alarm_count; first = end_of_scan(season, first))
         if (is_mixed(season, first) && mixed-- <= MOST_SCANS)
-            write_scan(page, season, first);
-    fputs("</table>\n</section>\n", page);
+            turned |= write_scan(page, season, first);
+    fputs("</table>\n", page);
+    if (turned)
+        fputs("<p>Where a cleared alarm stands behind a raised one, a gateway before 2.1 has filed them, or two scans had one "
+              "stamp.</p>\n",
+              page);
+    fputs("</section>\n", page);
 }
 
 /* 1 where north had less of a trouble, -1 where it had more. */

@@ -19,7 +19,7 @@ const char settings_help[] =
     "  trigger 1 1801              the flag whose rise captures a record of file 1; 0 for none\n"
     "  alarm 1 1805 0 7101         slot 1-32, its flag or 0, type 0-3, its transducer (a float) or 0:\n"
     "                              types 0 and 2 log any change of the flag, 1 and 3 a rise only; of one scan falls\n"
-    "                              come first, then rises, each by flag, then slot\n"
+    "                              (cleared) come first, then rises (raised), each by flag, then slot\n"
     "  at 2026-06-07T00:00:00 trigger 1 1802     sets a trigger or an alarm slot when the clock gets there\n"
     "  begin 2026-05-01T06:00:00   when the clock of a simulated yard starts\n"
     "  scan 600                    seconds from one scan of it to the next, 1-1800\n"

@@ -174,8 +174,9 @@ struct windrow_gateway_answer windrow_gateway_alarm(struct windrow_state state, 
  * fresh only remembers the table's Booleans. A later one, if running, compares them with those remembered. Each file of a
  * laid-out limit over 0 whose trigger went from 0 to 1 captures a record of this table and stamp, behind the one captured
  * last, or over record 1 where that was the last record. Slots log to the alarm file: types 0 and 2 any change of their point,
- * types 1 and 3 a rise only. Of one scan's alarm records those with new bit 0 come first, then those with 1, and each of the
- * two by point, then slot, rising. Running or not, the Booleans are then remembered. Refused with 3 or 4.
+ * types 1 and 3 a rise only. Of one scan the records of points that fell (new bit 0) come first, then those of points that rose
+ * (1), each by point, then slot, the lowest number first; before 2.1 all went by point, then slot. Running or not, the Booleans
+ * are then remembered. Refused with 3 or 4.
  */
 struct windrow_gateway_answer windrow_gateway_scan(struct windrow_state state, uint8_t *archive, size_t archive_length,
                                                    const uint8_t *table, size_t table_length, struct windrow_stamp stamp);

@@ -154,11 +154,13 @@ class Page(RecordsCase):
         self.assertNotIn("<script", page)
 
     def order(self, *alarms):
-        """The listed alarms of a season that has these: stamp, point and whether it was raised; None where none are listed."""
+        """The listed alarms of a season that has these: stamp, point, type and whether it was raised; None where none are listed."""
         self.write("alarms", "stamp,point,type,bit\n" + "".join("2026-05-01T%s,%s,%d,%d\n" % alarm for alarm in alarms))
         self.expect(FINE, "", "page", "out.html", *self.NAMES)
-        section = re.search('<section class="order">(.*)</section>', self.read("out.html").decode(), re.DOTALL)
-        return section and re.findall("<tr><td>(.*)</td><td>(.*)</td><td>(?:<b>)?([a-z]+)(?:</b>)?</td></tr>", section[1])
+        page = self.read("out.html").decode()
+        self.tells_other_order = "a cleared alarm stands behind a raised one" in page
+        section = re.search('<section class="order">(.*)</section>', page, re.DOTALL)
+        return section and re.findall("<tr><td>(.*)</td><td>(.*)</td><td>(.*)</td><td>(?:<b>)?([a-z]+)(?:</b>)?</td></tr>", section[1])
 
     def test_scans_that_cleared_and_raised(self):
         """Each as it lies in the file, be it L4's order or another, with the alarm's name if it has one."""
@@ -167,14 +169,24 @@ class Page(RecordsCase):
                                     ("12:00:00", "1805", 0, 1), ("12:00:00", "1805", 1, 1), ("12:00:00", "1807", 2, 0),
                                     ("12:30:00", "1806", 0, 0), ("12:30:00", "1808", 2, 0),
                                     ("13:00:00", "1805", 0, 0), ("13:00:00", "1850", 3, 1), ("13:00:00", "<18&50>", 3, 1)), [
-            ("1 May 2026, 10:00", "1812 south without the fan", "cleared"),
-            ("1 May 2026, 10:00", "1811 north without the fan", "raised"),
-            ("1 May 2026, 12:00", "1805 north too hot", "raised"),
-            ("1 May 2026, 12:00", "1805 north too hot", "raised"),
-            ("1 May 2026, 12:00", "1807 north short of air", "cleared"),
-            ("1 May 2026, 13:00", "1805 north too hot", "cleared"),
-            ("1 May 2026, 13:00", "1850 ", "raised"),
-            ("1 May 2026, 13:00", "&lt;18&amp;50&gt; ", "raised")])
+            ("1 May 2026, 10:00", "1812 south without the fan", "0", "cleared"),
+            ("1 May 2026, 10:00", "1811 north without the fan", "0", "raised"),
+            ("1 May 2026, 12:00", "1805 north too hot", "0", "raised"),
+            ("1 May 2026, 12:00", "1805 north too hot", "1", "raised"),
+            ("1 May 2026, 12:00", "1807 north short of air", "2", "cleared"),
+            ("1 May 2026, 13:00", "1805 north too hot", "0", "cleared"),
+            ("1 May 2026, 13:00", "1850 ", "3", "raised"),
+            ("1 May 2026, 13:00", "&lt;18&amp;50&gt; ", "3", "raised")])
+        self.assertTrue(self.tells_other_order)
+
+    def test_other_order_is_told_where_it_is_listed(self):
+        """Not for what is cleared by a later scan, nor for a scan that is not among the last five."""
+        mixed = [("%02d:00:00" % hour, str(1812 - bit), 0, bit) for hour in range(10, 15) for bit in (0, 1)]
+        for alarms, told in (mixed, False), (mixed[1::-1] + mixed[2:], True), (mixed[:-2] + mixed[:-3:-1], True):
+            self.order(*alarms)
+            self.assertEqual(self.tells_other_order, told)
+        self.assertEqual(len(self.order(("09:00:00", "1811", 0, 1), ("09:00:00", "1812", 0, 0), *mixed)), 10)
+        self.assertFalse(self.tells_other_order)
 
     def test_no_scan_that_cleared_and_raised(self):
         """Nor are two scans one: a second apart, or of one time with another between them, as where a clock went back."""
