@@ -14,7 +14,7 @@ use reader::random::Random;
 use crate::calls::Call;
 use crate::lists::{List, NEVER};
 use crate::live_in_turn::{self, lengths_of_tables, runs};
-use crate::tally::Tally;
+use crate::tally::{unseen, Tally};
 
 /// The n of files 1 to 10.
 const LIMITS: [u16; USER_FILES] = [3, 1, 0, 2, 9, 5, 4, 7, 6, 8];
@@ -149,7 +149,7 @@ pub fn polls_in_turn(random: &mut Random, tally: &mut Tally) -> Result<(), Strin
         list.call(random, &mut own, &poll, NEVER)?;
         tally.polls_in_turn += 1;
     }
-    let unseen = own.polls.live.unseen();
+    let unseen = unseen(own.polls.live.seen());
     if !unseen.is_empty() {
         return Err(format!("in turn no poll has shown: {}", unseen.join("; ")));
     }

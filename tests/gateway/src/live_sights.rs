@@ -161,9 +161,4 @@ impl LiveTally {
         seen.extend(some.map(|((name, _), &n)| (format!("live {name}"), n, OFTEN_ENOUGH)));
         seen
     }
-
-    /// What was not seen at all.
-    pub fn unseen(&self) -> Vec<String> {
-        self.seen().into_iter().filter(|(_, n, _)| *n == 0).map(|(name, ..)| name).collect()
-    }
 }

@@ -10,6 +10,7 @@ use reader::random::Random;
 
 use crate::calls::Call;
 use crate::lists::{List, NEVER};
+use crate::sights::{ALL_TYPES, LOG_FALLS};
 use crate::tally::Tally;
 
 /// The calls of a long run, but for those that lay out its files.
@@ -46,12 +47,14 @@ fn definitions(random: &mut Random, archive: usize) -> Vec<Call> {
     calls
 }
 
-/// A slot on a point, of any type and transducer.
-fn alarm(random: &mut Random, slot: u32, point: u16) -> Call {
-    Call::Alarm { slot, point: point.into(), kind: random.below(4) as u32, transducer: float_or_none(random).into() }
+/// A slot on a point, of one of these types and any transducer.
+fn alarm(random: &mut Random, slot: u32, point: u16, types: &[u16]) -> Call {
+    let kind = types[random.below(types.len() as u64) as usize];
+    Call::Alarm { slot, point: point.into(), kind: kind.into(), transducer: float_or_none(random).into() }
 }
 
-/// Triggers and alarm slots on a handful of points, so that several share one.
+/// Triggers and alarm slots on a handful of points, so that several share one. One time in three all slots are on and log falls too,
+/// so that one scan may have 32 alarms of both sorts.
 fn settings(random: &mut Random) -> Vec<Call> {
     let points: [u16; 6] = std::array::from_fn(|_| boolean_or_none(random));
     let one_of = |random: &mut Random| points[random.below(6) as usize];
@@ -59,9 +62,10 @@ fn settings(random: &mut Random) -> Vec<Call> {
     for file in 1..=USER_FILES as u32 {
         calls.push(Call::Trigger { file, point: one_of(random).into() });
     }
+    let (least, types): (u16, &[u16]) = if random.chance(3) { (1801, &LOG_FALLS) } else { (0, &ALL_TYPES) };
     for slot in 1..=SLOTS as u32 {
         let point = if random.chance(3) { boolean_or_none(random) } else { one_of(random) };
-        calls.push(alarm(random, slot, point));
+        calls.push(alarm(random, slot, point.max(least), types));
     }
     calls
 }
@@ -84,7 +88,7 @@ fn moved_trigger(random: &mut Random, s: &State) -> Call {
 
 fn changed_slot(random: &mut Random) -> Call {
     let (slot, point) = (1 + random.below(32) as u32, boolean_or_none(random));
-    alarm(random, slot, point)
+    alarm(random, slot, point, &ALL_TYPES)
 }
 
 /// Mostly a scan or a poll. A gateway that was stopped is started again after about ten scans.

@@ -31,15 +31,17 @@ fn any_booleans(random: &mut Random) -> u128 {
     (u128::from(random.next()) << 64) | u128::from(random.next())
 }
 
-/// The Booleans of the next scan: no change, any, all that is named on or off, one changed, or some of what is named changed.
+/// The Booleans of the next scan: no change, any, all that is named on or off, one changed, or all or some of what is named changed,
+/// so that some of it falls while some rises.
 fn next_booleans(random: &mut Random, s: &State) -> u128 {
     let (before, named) = (booleans(&s.seen.booleans), named(s));
-    match random.below(10) {
+    match random.below(11) {
         0 => before,
         1 => any_booleans(random),
         2 => before | named,
         3 => before & !named,
         4 => before ^ (1 << random.below(128)),
+        5 => before ^ named,
         _ => before ^ (named & any_booleans(random)),
     }
 }

@@ -5,6 +5,7 @@ use model::layout::{ALARM_FILE, ALARM_RECORDS, USER_FILES};
 use model::record::Stamp;
 use reader::dates::is_leap_day;
 
+use crate::alarm_sights::{has_twins, Alarms};
 use crate::calls::Call;
 use crate::scans::{bit, booleans};
 
@@ -173,6 +174,18 @@ impl<'a> Sight<'a> {
         self.before.settings.slots.iter().filter(is_such).map(|slot| slot.point).collect()
     }
 
+    /// What the scan is to log; nothing where it is stopped.
+    pub fn alarms(&self) -> Alarms {
+        let is_running = self.before.flags.running;
+        let slots_on = |points, types| if is_running { self.slots_on(points, types) } else { Vec::new() };
+        Alarms {
+            cleared: slots_on(self.falls(), &LOG_FALLS),
+            raised: slots_on(self.rises(), &ALL_TYPES),
+            not_logged: slots_on(self.falls(), &LOG_RISES_ONLY),
+            pointer: self.pointer(ALARMS),
+        }
+    }
+
     fn while_running(&self, count: usize) -> usize {
         count * usize::from(self.before.flags.running)
     }
@@ -182,12 +195,10 @@ impl<'a> Sight<'a> {
     }
 }
 
-fn has_twins(mut points: Vec<u16>) -> bool {
-    points.sort_unstable();
-    points.windows(2).any(|pair| pair[0] == pair[1])
-}
-
-const ALL_TYPES: [u16; 4] = [0, 1, 2, 3];
+/// The types of alarm slots; those that log falls too, and those that do not.
+pub const ALL_TYPES: [u16; 4] = [0, 1, 2, 3];
+pub const LOG_FALLS: [u16; 2] = [0, 2];
+const LOG_RISES_ONLY: [u16; 2] = [1, 3];
 
 /// A name, and how often one scan shows it.
 type Shown = (&'static str, fn(&Sight) -> usize);
@@ -232,8 +243,8 @@ pub const SIGHTS: [Shown; 32] = [
     ("scans whose alarms are not in the order of slots", |s| {
         s.while_running(usize::from(!s.slots_on(s.rises(), &ALL_TYPES).is_sorted()))
     }),
-    ("scans with several alarms of one point", |s| s.while_running(usize::from(has_twins(s.slots_on(s.rises(), &ALL_TYPES))))),
-    ("falls that types 0 and 2 log", |s| s.while_running(s.slots_on(s.falls(), &[0, 2]).len())),
-    ("falls that types 1 and 3 do not log", |s| s.while_running(s.slots_on(s.falls(), &[1, 3]).len())),
+    ("scans with several alarms of one point", |s| s.while_running(usize::from(has_twins(&s.slots_on(s.rises(), &ALL_TYPES))))),
+    ("falls that types 0 and 2 log", |s| s.while_running(s.slots_on(s.falls(), &LOG_FALLS).len())),
+    ("falls that types 1 and 3 do not log", |s| s.while_running(s.slots_on(s.falls(), &LOG_RISES_ONLY).len())),
     ("changes of an alarm point while stopped", |s| s.while_stopped(s.slots_on(s.rises() | s.falls(), &ALL_TYPES).len())),
 ];

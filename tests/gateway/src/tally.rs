@@ -4,6 +4,7 @@ use gateway::states::CLAUSES;
 use model::card::{CLOCK, DONE, FOREIGN, MEMORY, TABLE};
 use reader::dates::is_impossible_day;
 
+use crate::alarm_sights::AlarmTally;
 use crate::calls::{Call, NAMES, WIDE};
 use crate::compare::Wanted;
 use crate::lent::Lent;
@@ -48,9 +49,11 @@ pub struct Tally {
     sights: [usize; SIGHTS.len()],
     /// How often the file that went round most in one list did so.
     pub most_rounds: usize,
+    pub alarms: AlarmTally,
     pub polls: PollTally,
-    /// The polls that were made one after the other, which are in no other count.
+    /// The polls and the scans with alarms that were made one after the other, which are in no other count.
     pub polls_in_turn: usize,
+    pub alarm_scans_in_turn: usize,
 }
 
 impl Tally {
@@ -83,6 +86,7 @@ impl Tally {
         for (seen, (_, how_often)) in self.sights.iter_mut().zip(SIGHTS) {
             *seen += how_often(sight);
         }
+        self.alarms.logged(&sight.alarms());
     }
 
     /// What was hardly seen, of all that a whole run should see.
@@ -110,7 +114,8 @@ impl Tally {
         if self.most_rounds < MANY_ROUNDS {
             seldom.push("a file that goes round many times".to_string());
         }
-        seldom.extend(self.polls.seen().into_iter().filter(|(_, n, least)| n < least).map(|(name, ..)| name));
+        let shown = self.alarms.seen().into_iter().chain(self.polls.seen());
+        seldom.extend(shown.filter(|(_, n, least)| n < least).map(|(name, ..)| name));
         seldom
     }
 
@@ -133,8 +138,13 @@ impl Tally {
             println!("{name}: {seen}");
         }
         println!("one file went round {} times in one list", self.most_rounds);
-        for (name, n, _) in self.polls.seen() {
+        for (name, n, _) in self.alarms.seen().into_iter().chain(self.polls.seen()) {
             println!("{name}: {n}");
         }
     }
+}
+
+/// What was not seen at all, of what there was to be seen.
+pub fn unseen(seen: Vec<(String, usize, usize)>) -> Vec<String> {
+    seen.into_iter().filter(|(_, n, _)| *n == 0).map(|(name, ..)| name).collect()
 }

@@ -5,6 +5,7 @@
 //! It is meant to be read beside document 01 and to be compared with the
 //! gateway library. It favours clarity over speed.
 
+pub mod alarm_orders;
 pub mod card;
 pub mod crc;
 pub mod foreign;

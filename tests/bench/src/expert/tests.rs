@@ -1,11 +1,12 @@
 //! The yardstick does what the library does, on random states, damaged ones, and random frames; its calendar is the model's.
 
-use ::gateway::ffi::{self, State};
+use ::gateway::ffi::{self, Answer, State};
 use ::gateway::frames::{any_frame, any_room};
-use ::gateway::states::{damage, standing, CLAUSES};
+use ::gateway::states::{damage, definitions_of, standing, CLAUSES};
 use ::gateway::tables::Table;
 use model::frames::read_reply;
-use model::record::{captured_record, every_date};
+use model::layout::{file_start, ALARM_FILE, ALARM_RECORDS, ALARM_RECORD_BYTES};
+use model::record::{captured_record, every_date, Stamp, AUGUST};
 use reader::random::{groups, stamp, Random};
 
 use super::records::in_range;
@@ -23,6 +24,16 @@ fn any_state(random: &mut Random) -> State {
     s
 }
 
+/// A scan by the library and by the expert, over the same archive: they answer the same number and leave the same. The library's.
+fn scan_both(s: State, archive: &mut [u8], table: &mut [u8], at: Stamp) -> Answer {
+    let (mut plain, mut plain_archive) = (s, archive.to_vec());
+    let number = gateway::scan(&mut plain, &mut plain_archive, table, &at.into());
+    let wanted = ffi::scan(s, archive, table, at.into());
+    assert_eq!((number, plain), (wanted.number, wanted.state));
+    assert!(archive == plain_archive, "other bytes");
+    wanted
+}
+
 #[test]
 fn lock_and_scan_are_the_librarys() {
     let mut random = Random::new(1);
@@ -31,7 +42,7 @@ fn lock_and_scan_are_the_librarys() {
         let s = any_state(&mut random);
         let length = s.site.archive_length as usize + usize::from(random.chance(20));
         let mut archive = random.bytes(length);
-        let (mut locked, mut scanned) = (s, s);
+        let mut locked = s;
         let number = gateway::lock(&mut locked, &archive);
         let wanted = ffi::lock(s, &mut archive);
         assert_eq!((number, locked), (wanted.number, wanted.state));
@@ -40,14 +51,34 @@ fn lock_and_scan_are_the_librarys() {
         let mut table = random.bytes(length);
         let mut at = stamp(&mut random);
         at.month += u8::from(random.chance(20)) * 12;
-        let mut other_archive = archive.clone();
-        let number = gateway::scan(&mut scanned, &mut other_archive, &table, &at.into());
-        let wanted = ffi::scan(s, &mut archive, &mut table, at.into());
-        assert_eq!((number, scanned), (wanted.number, wanted.state));
-        assert!(archive == other_archive, "other bytes");
-        seen[number as usize] += 1;
+        let wanted = scan_both(s, &mut archive, &mut table, at);
+        seen[wanted.number as usize] += 1;
     }
     assert!(seen.iter().all(|&n| n > 10), "numbers of scans {seen:?}");
+}
+
+/// The new bits of the first and the last alarm record that a scan logged, if it logged any.
+fn first_and_last_bit(before: &State, after: &State, archive: &[u8]) -> Option<[u8; 2]> {
+    let file = file_start(&definitions_of(&before.files.layout), ALARM_FILE) as usize;
+    let bit = |k: u16| archive[file + usize::from(k - 1) * ALARM_RECORD_BYTES + 9];
+    let [old, new] = [before, after].map(|s| s.files.pointers[ALARM_FILE - 1]);
+    (old != new).then(|| [old % ALARM_RECORDS + 1, new].map(bit))
+}
+
+/// Random Booleans: of most states some slots' points fall while others rise, and the falls are logged first.
+#[test]
+fn alarms_are_the_librarys() {
+    let mut random = Random::new(4);
+    let mut cleared_and_raised = 0;
+    for _ in 0..ROUNDS {
+        let mut s = standing(&mut random);
+        (s.flags.running, s.flags.unlocked, s.seen.scanned) = (true, false, true);
+        let mut archive = random.bytes(s.site.archive_length as usize);
+        let wanted = scan_both(s, &mut archive, &mut random.bytes(1424), AUGUST);
+        let bits = first_and_last_bit(&s, &wanted.state, &archive);
+        cleared_and_raised += usize::from(bits == Some([0, 1]));
+    }
+    assert!(cleared_and_raised > ROUNDS / 2, "{cleared_and_raised} scans that cleared and raised alarms");
 }
 
 /// Each state is polled with frames of every kind, and goes on with what an answered one left.

@@ -1,13 +1,16 @@
 //! The marked cases (*) and known blunders of document 01 that are about
-//! the machine, and the rules of each call; live points of document 02, L3.
+//! the machine, and the rules of each call; live points of document 02, L3, and
+//! the order of alarms, L4.
 
 use super::*;
+use crate::alarm_orders::table_with;
 use crate::card::Refusal;
 use crate::crc;
 use crate::frames::request;
 use crate::points::{groups_from_first_place, TABLE_BYTES};
 use crate::record::{february, Stamp, AUGUST};
 
+mod alarms;
 mod frames;
 mod live;
 mod mixed_run;
@@ -20,20 +23,12 @@ const UNIT: u8 = 17;
 const ARCHIVE: usize = 20_000;
 /// The trigger of file 1 in these tests.
 const FLAG: u16 = 1803;
+/// What memory holds where nothing of ours was ever written.
+const JUNK: u8 = 0xEE;
 
 /// A stamp whose second tells scans apart.
 fn at_second(second: u8) -> Stamp {
     Stamp { second, ..AUGUST }
-}
-
-/// A live table of zeros with these Booleans on.
-fn table_with(on: &[u16]) -> Vec<u8> {
-    let mut table = vec![0; TABLE_BYTES];
-    for point in on {
-        let i = usize::from(point - 1801);
-        table[i / 8] |= 1 << (i % 8);
-    }
-    table
 }
 
 fn fresh() -> Machine {

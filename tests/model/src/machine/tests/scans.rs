@@ -125,29 +125,6 @@ fn archive_memory_holds_the_files_in_order() {
 }
 
 #[test]
-fn alarms_go_by_point_then_slot() {
-    let mut machine = fresh();
-    done(machine.alarm(ARCHIVE, 1, 1928, 0, 0));
-    done(machine.alarm(ARCHIVE, 2, 1801, 2, 0));
-    done(machine.alarm(ARCHIVE, 3, 1850, 1, 0));
-    done(machine.alarm(ARCHIVE, 31, 1801, 1, 0));
-    done(machine.alarm(ARCHIVE, 32, 1801, 3, 0));
-    done(machine.start(ARCHIVE));
-    scan(&mut machine, &[1850], 1);
-    scan(&mut machine, &[1801, 1928], 2);
-    let logged = |machine: &Machine| -> Vec<(u16, u8, u8)> {
-        let records = machine.captures(11).iter();
-        records
-            .map(|r| (u16::from_be_bytes([r[6], r[7]]), r[8], r[9]))
-            .collect()
-    };
-    let rises = vec![(1801, 2, 1), (1801, 1, 1), (1801, 3, 1), (1928, 0, 1)];
-    assert_eq!(logged(&machine), rises);
-    scan(&mut machine, &[], 3);
-    assert_eq!(logged(&machine)[4..], [(1801, 2, 0), (1928, 0, 0)]);
-}
-
-#[test]
 fn scan_answers_the_lowest_that_applies_and_changes_nothing() {
     let mut machine = running_with_file_1(4);
     scan(&mut machine, &[], 1);

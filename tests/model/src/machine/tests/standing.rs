@@ -2,8 +2,6 @@
 
 use super::*;
 
-/// What memory holds where nothing of ours was ever written.
-const JUNK: u8 = 0xEE;
 /// The bytes of a record of `running_with_file_1`.
 const SIZE: usize = 8;
 
