@@ -21,6 +21,8 @@ pub const ARCHIVE: usize = 10 * 250 * RECORDS_A_FILE as usize + 11_000;
 /// The triggers of files 1 to 10 are the first ten Booleans, and the points of slots 32 to 1 are the last 32.
 const TRIGGERS: u128 = 0x3FF;
 const SLOT_POINTS: u128 = 0xFFFF_FFFF << 96;
+/// Those whose slots log any change, every other one.
+const CLEARING: u128 = 0xAAAA_AAAA << 96;
 
 /// A running gateway that remembers Booleans which are all off.
 pub fn watching() -> State {
@@ -60,8 +62,9 @@ fn agree(s: State, table: &mut [u8], files: usize, alarms: u16) {
     assert_eq!(after.files.pointers[10], alarms);
 }
 
-fn scan(name: &str, booleans: u128, files: usize, alarms: u16) {
-    let (s, mut table) = (watching(), table(booleans));
+fn scan(name: &str, [before, now]: [u128; 2], files: usize, alarms: u16) {
+    let (mut s, mut table) = (watching(), table(now));
+    s.seen.booleans = before.to_le_bytes();
     agree(s, &mut table, files, alarms);
     let mut archive = vec![0; ARCHIVE];
     let proved = best(|| {
@@ -118,8 +121,9 @@ pub fn calls() -> Times {
     let lock = lock();
     lock.report("a Lock", CALLS);
     by_value();
-    scan("a scan with no change", 0, 0, 0);
-    scan("a scan that captures ten files of 250 bytes", TRIGGERS, 10, 0);
-    scan("a scan that logs 32 alarms", SLOT_POINTS, 0, 32);
+    scan("a scan with no change", [0, 0], 0, 0);
+    scan("a scan that captures ten files of 250 bytes", [0, TRIGGERS], 10, 0);
+    scan("a scan that logs 32 alarms", [0, SLOT_POINTS], 0, 32);
+    scan("a scan that clears 16 alarms and raises 16", [CLEARING, SLOT_POINTS ^ CLEARING], 0, 32);
     lock
 }
