@@ -1,5 +1,6 @@
 -- Demand 2 from end to end: what was captured comes back. A poll of record k after a list of calls sends a record that an accepted scan
--- of the list made, and from that frame the reading end gets the scan's stamp and every point's kind and value; or zeros, told as Empty.
+-- of the list made, and from that frame the reading end gets the scan's stamp and every point's kind and value, of a text the cleaned
+-- one (document 02, L5); or zeros, told as Empty.
 use mathlib.Core.Path.{_≡_}
 use mathlib.Core.List.{List, [], List·Memᴰ}
 use mathlib.Core.Bool.{Bool, true}

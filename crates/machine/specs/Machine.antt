@@ -1,4 +1,4 @@
--- Document 01, "The plain machine", with document 02, L1, L3 and L4: its state, and what each call does to it and is answered. Nothing here
+-- Document 01, "The plain machine", with document 02, L1 and L3 to L5: its state, and what each call does to it and is answered. Nothing here
 -- knows of the gateway's state. Archive memory is no part of it: View.antt works it out from the lists of captures, so that emptied lists
 -- are memory all zeros. Files are counted from 0, as in the archive's Layout.antt; calls name files and slots from 1, as the paper does.
 use mathlib.Core.Bool.{Bool, true, false, cond, not, _&&_, _||_}

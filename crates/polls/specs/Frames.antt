@@ -1,4 +1,4 @@
--- Document 01, "Frames", with document 02, L3: what a frame of any length and content is answered, and what it leaves requested.
+-- Document 01, "Frames", with document 02, L3 and L5: what a frame of any length and content is answered, and what it leaves requested.
 use mathlib.Core.List.{List, [], _++_}
 use mathlib.Core.Path.{_≡_}
 use mathlib.Core.Bool.{Bool, cond, not, _&&_, _||_}
@@ -44,7 +44,7 @@ unfoldable pub registerBytes : View → ℕ → ℕ → List ℕ
 registerBytes v i zero = []
 registerBytes v i (suc q) = registerBytes v i q ++ wordBytes (register v (i + q))
 
--- ---- what is answered, each case of what was asked; live points are the bytes of a captured group of them; a 06 is echoed
+-- ---- what is answered, each case of what was asked; live points are the bytes of a captured group of them, texts cleaned; a 06 is echoed
 unfoldable pub replyOf : View → List ℕ → Asked → List ℕ
 replyOf v frame (Exception code) = exceptionReply (v .unit) (functionOf frame) code
 replyOf v frame (WholeRecord f k) = readReply (v .unit) (v .reads f k)

@@ -1,5 +1,5 @@
 -- Demand 2: the value of a point, in a live table and in a captured stretch. A value is made from the point's own bytes, by kind.
-use mathlib.Core.List.{List, [], _∷_, map}
+use mathlib.Core.List.{List, [], _∷_}
 use mathlib.Core.Bool.{Bool, cond}
 use Prim.Native.Nat.{ℕ, _-_, _*_, _^_}
 use lib.Dec.{eqb, ltb}
@@ -10,7 +10,7 @@ use Rattle.points.specs.declared.table.Kind.{Kind}
 use Rattle.points.specs.declared.table.Kind.the-variants.{Boolean, Int16, Text8, Int32, Float, Text16}
 use Rattle.points.specs.declared.table.Row.{Row}
 use Rattle.points.specs.Table.{isBits, flagAt, placeOf}
-use Rattle.records.specs.Capture.{textByte}
+use Rattle.records.specs.Capture.{cleaned}
 
 -- flag, signed 16-bit, signed 32-bit, float pattern, text
 pub data PointValue : Type 0 where
@@ -39,14 +39,14 @@ unfoldable pub bytesInTable : List ℕ → Row → ℕ → List ℕ
 bytesInTable table r p =
     cond (isBits r) (flagAt table (r .offset) (p - r .first) ∷ []) (take (r .size) (drop (placeOf r p) table))
 
--- the value of a point's bytes in the table; a text's is the captured text
+-- the value of a point's bytes in the table; a text's is the cleaned text (document 02, L5)
 abbrev pub tableValue : Kind → List ℕ → PointValue
 tableValue Boolean bs = valueOf Boolean bs
 tableValue Int16 bs = valueOf Int16 bs
-tableValue Text8 bs = valueOf Text8 (map textByte bs)
+tableValue Text8 bs = valueOf Text8 (cleaned bs)
 tableValue Int32 bs = valueOf Int32 bs
 tableValue Float bs = valueOf Float bs
-tableValue Text16 bs = valueOf Text16 (map textByte bs)
+tableValue Text16 bs = valueOf Text16 (cleaned bs)
 
 -- the value of point p of row r in a live table
 unfoldable pub valueInTable : List ℕ → Row → ℕ → PointValue

@@ -5,36 +5,48 @@ ghost use lib.ListN.{length};
 ghost use Rattle.basics.specs.Lists.{tabulate};
 ghost use Rattle.points.specs.declared.groups.Group.the-variants.{Points};
 ghost use Rattle.points.specs.Groups.{groupsSize, recordSize};
-ghost use Rattle.records.specs.Capture.{textByte, storedByte, valueByte, capturedPoints, capturedGroup};
+ghost use Rattle.records.specs.Capture.{isClean, textByte, storedByte, valueByte, capturedPoints, capturedGroup};
 ghost use Rattle.records.specs.Record.{capturedGroups, recordOf};
 ghost use Rattle.records.specs.Lent.{LentGroup, LentPlace, Placed, LentDefinition};
 use crate::flags::write_flags;
 use crate::stamp::Stamp;
 use crate::stamp::write_stamp;
+use basics::is_within;
 use points::Group;
 use points::Kind;
 use points::Row;
 use points::groups::group_at;
 use points::groups::group_size;
 
-// How a byte of text is captured.
+// Whether a byte is one of clean text: 00, or 20 to 7E hex.
+fn is_clean(b: u8) -> bool
+    ensures { λ r. ⌜ r ≡ isClean b ⌝ }
+{
+    (b == 0) | is_within(0x20, 0x7E, b as u32)
+}
+
+// How a byte of text is captured, document 02, L5: a clean one as it stands, any other as a question mark.
 fn text_byte(b: u8) -> u8
     ensures { λ r. ⌜ r ≡ textByte b ⌝ }
 {
-    b
+    if is_clean(b) {
+        return b;
+    }
+    0x3F
 }
 
 // How a byte of a value is captured, by kind.
 fn stored_byte(kind: Kind, b: u8) -> u8
     ensures { λ r. ⌜ r ≡ storedByte kind b ⌝ }
 {
+    let cleaned = text_byte(b);
     match kind {
         Kind::Boolean => b,
         Kind::Int16 => b,
-        Kind::Text8 => text_byte(b),
+        Kind::Text8 => cleaned,
         Kind::Int32 => b,
         Kind::Float => b,
-        Kind::Text16 => text_byte(b),
+        Kind::Text16 => cleaned,
     }
 }
 
