@@ -57,11 +57,11 @@ module _ (s : State) (m table frame buffer : List ℕ) where
   number = pollNumber s (length m) (length table) (length buffer)
 
   pub poll-refuses : (n : ℕ) → n ≡ pollNumber s (length m) (length table) (length buffer) → (n ≡ 0 → ⊥) →
-      Polled s m table frame buffer (pollTold s n 0) m buffer
+      Polled s m table frame buffer (pollTold s n 0) m table buffer
   unfolding pollAnswer pollBuffer
   poll-refuses n is some =
       let refused : eqb number 0 ≡ false = ne-eqb number 0 (λ none. some (is ∙ none)) in
-      record { answer = rw (is, refused) refl; memory = refl; reply = rw refused refl }
+      record { answer = rw (is, refused) refl; memory = refl; kept = refl; reply = rw refused refl }
 
   abbrev groups : List ℕ
   groups = s .files .layout .groups
@@ -88,10 +88,10 @@ module _ (s : State) (m table frame buffer : List ℕ) where
 
   pub poll-done : (told : ℕ) (buffer′ requested′ : List ℕ) → pollNumber s (length m) (length table) (length buffer) ≡ 0 →
       Answers (pollView s m table) frame buffer told buffer′ requested′ →
-      Polled s m table frame buffer (pollTold (withRequested s requested′) 0 told) m buffer′
+      Polled s m table frame buffer (pollTold (withRequested s requested′) 0 told) m table buffer′
   unfolding pollAnswer pollBuffer
   poll-done told buffer′ requested′ taken answers =
-      record { answer = rw (taken, answers .asks, answers .sent .size) refl; memory = refl; reply = rw taken (answers .sent .left) }
+      record { answer = rw (taken, answers .asks, answers .sent .size) refl; memory = refl; kept = refl; reply = rw taken (answers .sent .left) }
 
   pub poll-short : pollNumber s (length m) (length table) (length buffer) ≡ 0 → length (replyTo (pollView s m table) frame) ≤ leastBuffer
   unfolding pollView

@@ -45,7 +45,9 @@ unfoldable pub pollBuffer : State → List ℕ → List ℕ → List ℕ → Lis
 pollBuffer s m table frame buffer =
     cond (eqb (pollNumber s (length m) (length table) (length buffer)) 0) (pasted buffer 0 (replyTo (pollView s m table) frame)) buffer
 
-pub record Polled (s : State) (m table frame buffer : List ℕ) (r : PollAnswer) (m′ buffer′ : List ℕ) : Type 0 where
+-- archive memory stays, and so does the live table (document 02, L5), whatever is polled
+pub record Polled (s : State) (m table frame buffer : List ℕ) (r : PollAnswer) (m′ table′ buffer′ : List ℕ) : Type 0 where
   pub answer : r ≡ pollAnswer s m table frame (length buffer)
   pub memory : m′ ≡ m
+  pub kept : table′ ≡ table
   pub reply : buffer′ ≡ pollBuffer s m table frame buffer

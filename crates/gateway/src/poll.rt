@@ -49,7 +49,7 @@ pub extern "C" fn windrow_gateway_poll(
     frame: &[u8],
     reply: &mut [u8],
 ) -> PollAnswer
-    ensures { λ r. ⌜ Polled s (now (archive .entry)) (now (table .entry)) (now (frame .entry)) (now (reply .entry)) r (now (archive .exit)) (now (reply .exit)) ⌝ }
+    ensures { λ r. ⌜ Polled s (now (archive .entry)) (now (table .entry)) (now (frame .entry)) (now (reply .entry)) r (now (archive .exit)) (now (table .exit)) (now (reply .exit)) ⌝ }
 {
     let checked = check(s, archive.len());
     let number = poll_number(checked.number, table.len(), reply.len());
