@@ -8,7 +8,7 @@ use Rattle.modbus.specs.Crc.{crcShift, crcShifts, crcByte, crcFrom, crcOf, with
 use Rattle.modbus.specs.Frame.{readReplyBy}
 use Rattle.records.specs.Stamp.{dateInRange, timeInRange, inRange, stampBytes, stampFrom}
 use Rattle.records.specs.Record.{capturedGroups, recordOf}
-use Rattle.records.specs.Capture.{flags, fromBits, packedByte, capturedByte, capturedPoints}
+use Rattle.records.specs.Capture.{flags, fromBits, packedByte, textByte, capturedByte, capturedPoints}
 use Rattle.records.specs.Value.{bytesInTable, valueInTable}
 use Rattle.reader.specs.Frame.{isReply, recordChecked, replyChecked, frameChecked}
 use Rattle.reader.specs.Answers.{recordAnswer}
@@ -25,5 +25,5 @@ use Rattle.gateway.specs.Scan.{scanNumber, archiveLeft, scanAnswer, scanMemory}
 use Rattle.cases.specs.Marked.{marked, allHold}
 
 pub marked-cases-hold : allHold marked ≡ true
-unfolding marked judged recordSize groupsSize firstBad groupOf unused endsInRow pointsSize rowOf rowIn inRow rows tabulate stampBytes flags fromBits packedByte capturedByte capturedPoints bytesInTable valueInTable floatOrNone every isGood goodFiles freshState booleanOrNone goodTriggers valid stateNumber unlockAnswer definitionAnswer defineAnswer startAnswer freshNumber freshAnswer triggerAnswer slotAfter captured capturedAll pointerAfter recordAfter isOn logs alarmsAt alarmsFrom alarmsInOrder dateInRange timeInRange inRange capturedGroups recordOf scanNumber archiveLeft scanAnswer scanMemory limitOf sizeOf baseOf layoutSize hasRoom goodSlot goodSlots withinLimits filesValid settingsValid doesCapture fileRecords recordsLogged appended filesScanned crcShift crcShifts crcByte crcFrom crcOf withCrc endsInCrc readReplyBy stampFrom isReply recordChecked replyChecked frameChecked recordAnswer
+unfolding marked judged recordSize groupsSize firstBad groupOf unused endsInRow pointsSize rowOf rowIn inRow rows tabulate stampBytes flags fromBits packedByte textByte capturedByte capturedPoints bytesInTable valueInTable floatOrNone every isGood goodFiles freshState booleanOrNone goodTriggers valid stateNumber unlockAnswer definitionAnswer defineAnswer startAnswer freshNumber freshAnswer triggerAnswer slotAfter captured capturedAll pointerAfter recordAfter isOn logs alarmsAt alarmsFrom alarmsInOrder dateInRange timeInRange inRange capturedGroups recordOf scanNumber archiveLeft scanAnswer scanMemory limitOf sizeOf baseOf layoutSize hasRoom goodSlot goodSlots withinLimits filesValid settingsValid doesCapture fileRecords recordsLogged appended filesScanned crcShift crcShifts crcByte crcFrom crcOf withCrc endsInCrc readReplyBy stampFrom isReply recordChecked replyChecked frameChecked recordAnswer
 marked-cases-hold = refl

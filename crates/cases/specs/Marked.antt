@@ -1,4 +1,4 @@
--- Document 01, "Marked cases and known blunders": the marked cases, one list, and behind them cases of document 02, L1.
+-- Document 01, "Marked cases and known blunders": the marked cases, one list, and behind them cases of document 02, L1 and L5.
 -- proofs/Check.antt computes them all at once.
 use mathlib.Core.List.{List, [], _∷_, _++_}
 use mathlib.Core.Bool.{Bool, true, false, _&&_}
@@ -63,17 +63,17 @@ abbrev shownNumber : ℤ → List ℕ
 shownNumber (pos n) = 0 ∷ n ∷ []
 shownNumber (negsuc n) = 1 ∷ suc n ∷ []
 
--- a 16-bit value; anything else shows as nothing
-abbrev shownInt16 : PointValue → List ℕ
-shownInt16 (flag b) = []
-shownInt16 (int16 z) = shownNumber z
-shownInt16 (int32 z) = []
-shownInt16 (float x) = []
-shownInt16 (text bs) = []
+-- a 16-bit value, or a text; anything else shows as nothing
+abbrev shownValue : PointValue → List ℕ
+shownValue (flag b) = []
+shownValue (int16 z) = shownNumber z
+shownValue (int32 z) = []
+shownValue (float x) = []
+shownValue (text bs) = bs
 
-abbrev int16In : Found → List ℕ → ℕ → List ℕ
-int16In Nowhere table p = []
-int16In (In r) table p = shownInt16 (valueInTable table r p)
+abbrev valueIn : Found → List ℕ → ℕ → List ℕ
+valueIn Nowhere table p = []
+valueIn (In r) table p = shownValue (valueInTable table r p)
 
 -- fresh, unlocked, file 1 defined as one bare stamp, then started: the number that Start answers
 abbrev oneBareStamp : ℕ → List ℕ
@@ -138,6 +138,17 @@ taken = doneNo ∷ doneNo ∷ doneNo ∷ []
 abbrev impossible : List ℕ
 impossible = clockNo ∷ garbledNo ∷ garbledNo ∷ []
 
+-- n bytes from b on
+abbrev bytesFrom : ℕ → ℕ → List ℕ
+bytesFrom b n = tabulate n (λ i. b + i)
+
+-- all 256, and what they are captured as in a text
+abbrev everyByte : List ℕ
+everyByte = bytesFrom 0x00 256
+
+abbrev everyClean : List ℕ
+everyClean = 0x00 ∷ replicate 31 0x3F ++ (bytesFrom 0x20 95 ++ replicate 129 0x3F)
+
 -- ---- the cases
 unfoldable pub marked : List Case
 marked =
@@ -158,7 +169,7 @@ marked =
     -- (1801,9), only 1801 and 1809 on: 01 01 hex
     ∷ groupBytes (tableWith 0 (0x01 ∷ 0x01 ∷ [])) 1801 9 gives (0x01 ∷ 0x01 ∷ [])
     -- Value -5 at 3001: FF FB hex
-    ∷ int16In (rowOf 3001) (tableWith 16 (0xFF ∷ 0xFB ∷ [])) 3001 gives shownNumber (negsuc 4)
+    ∷ valueIn (rowOf 3001) (tableWith 16 (0xFF ∷ 0xFB ∷ [])) 3001 gives shownNumber (negsuc 4)
     ∷ groupBytes (tableWith 16 (0xFF ∷ 0xFB ∷ [])) 3001 1 gives (0xFF ∷ 0xFB ∷ [])
     -- Memory 11,006: one file of one bare stamp starts; 11,005: 11
     ∷ oneBareStamp 11006 gives (0 ∷ [])
@@ -184,6 +195,17 @@ marked =
     ∷ dated 31 12 24 gives taken
     -- and a record of zeros stays Empty
     ∷ (readAs false (replicate 6 0) ∷ []) gives (emptyNo ∷ [])
+    -- L5: all 256 bytes in each text row, and in the rows of numbers, where they stay
+    ∷ groupBytes (tableWith 144 everyByte) 4001 32 gives everyClean
+    ∷ groupBytes (tableWith 1168 everyByte) 14001 16 gives everyClean
+    ∷ groupBytes (tableWith 16 (bytesFrom 0x00 128)) 3001 64 gives bytesFrom 0x00 128
+    ∷ groupBytes (tableWith 16 (bytesFrom 0x80 128)) 3001 64 gives bytesFrom 0x80 128
+    ∷ groupBytes (tableWith 400 everyByte) 5101 64 gives everyByte
+    ∷ groupBytes (tableWith 656 everyByte) 7101 64 gives everyByte
+    -- and the value of a text in the table is the cleaned one
+    ∷ valueIn (rowOf 4032) (tableWith 392 (0x57 ∷ 0x1F ∷ 0x20 ∷ 0x7E ∷ 0x7F ∷ 0x80 ∷ 0x00 ∷ 0xFF ∷ [])) 4032
+    gives (0x57 ∷ 0x3F ∷ 0x20 ∷ 0x7E ∷ 0x3F ∷ 0x3F ∷ 0x00 ∷ 0x3F ∷ [])
+    ∷ valueIn (rowOf 14016) (tableWith 1408 (bytesFrom 0x77 16)) 14016 gives (bytesFrom 0x77 8 ++ replicate 8 0x3F)
     ∷ []
 
 -- ---- the check
