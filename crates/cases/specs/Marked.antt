@@ -10,17 +10,20 @@ use Rattle.points.specs.declared.table.Found.{Found}
 use Rattle.points.specs.declared.table.Found.the-variants.{In, Nowhere}
 use Rattle.points.specs.Table.{tableBytes, rowOf}
 use Rattle.basics.specs.Card.{Card, doneNo, clockNo, groupNo, longNo, garbledNo, emptyNo}
+use Rattle.modbus.specs.Crc.{withCrc}
 use Rattle.modbus.specs.Frame.{readReply}
 use Rattle.points.specs.Groups.{groupOf, recordSize, judgedCard}
 use Rattle.records.specs.declared.stamp.Stamp.{Stamp}
 use Rattle.records.specs.Stamp.{stampBytes}
 use Rattle.records.specs.Capture.{capturedGroup}
 use Rattle.records.specs.Value.{PointValue, flag, int16, int32, float, text, valueInTable}
-use Rattle.reader.specs.Answers.{recordAnswer}
+use Rattle.reader.specs.Answers.{recordAnswer, pointValue, pointAnswer}
 use Rattle.archive.specs.Ring.{ring, capturedAll, pointerAfter, recordAfter}
 use Rattle.state.specs.declared.parts.State.{State}
+use Rattle.gateway.specs.declared.calls.Answer.{Answer}
 use Rattle.gateway.specs.Calls.{freshAnswer, unlockAnswer, triggerAnswer, defineAnswer, startAnswer}
 use Rattle.gateway.specs.Scan.{scanAnswer, scanMemory}
+use Rattle.gateway.specs.Poll.{pollBuffer}
 
 -- what the definitions give, and what the paper says
 pub record Case : Type 0 where
@@ -75,13 +78,15 @@ abbrev valueIn : Found → List ℕ → ℕ → List ℕ
 valueIn Nowhere table p = []
 valueIn (In r) table p = shownValue (valueInTable table r p)
 
--- fresh, unlocked, file 1 defined as one bare stamp, then started: the number that Start answers
-abbrev oneBareStamp : ℕ → List ℕ
-oneBareStamp size =
+-- fresh for unit 1, unlocked, file 1 defined as one record of these groups, then started: what Start answers
+abbrev started : ℕ → List ℕ → Answer
+started size gs =
     let fresh = freshAnswer false 1 size .state in
     let unlocked = unlockAnswer fresh size .state in
-    let defined = defineAnswer unlocked size 1 (groups []) 1 .state in
-    startAnswer defined size .number ∷ []
+    startAnswer (defineAnswer unlocked size 1 (groups gs) 1 .state) size
+
+abbrev oneBareStamp : ℕ → List ℕ
+oneBareStamp size = started size [] .number ∷ []
 
 -- captures 1 to c of one byte each, its own number, the newest first
 abbrev numbered : ℕ → List (List ℕ)
@@ -97,12 +102,7 @@ formulas n c = pointerAfter n c ∷ tabulate n (λ i. getD (recordAfter n 1 (num
 
 -- file 1 of one bare stamp with trigger 1801, started
 abbrev watching : State
-watching =
-    let fresh = freshAnswer false 1 11006 .state in
-    let triggered = triggerAnswer fresh 11006 1 1801 .state in
-    let unlocked = unlockAnswer triggered 11006 .state in
-    let defined = defineAnswer unlocked 11006 1 (groups []) 1 .state in
-    startAnswer defined 11006 .state
+watching = triggerAnswer (started 11006 [] .state) 11006 1 1801 .state
 
 abbrev nothing : List ℕ
 nothing = replicate 11006 0
@@ -148,6 +148,25 @@ everyByte = bytesFrom 0x00 256
 
 abbrev everyClean : List ℕ
 everyClean = 0x00 ∷ replicate 31 0x3F ++ (bytesFrom 0x20 95 ++ replicate 129 0x3F)
+
+-- the reply to 03 on 721 for record 1, where file 1 is of a text of 8 and this is what lies in archive memory at the record's place
+abbrev replied : List ℕ → List ℕ
+replied kept =
+    let frame = withCrc (0x01 ∷ 0x03 ∷ 0x02 ∷ 0xD1 ∷ 0x00 ∷ 0x01 ∷ []) in
+    take (14 + 5) (pollBuffer (started 11014 (4001 ∷ 1 ∷ []) .state) (kept ++ replicate 11000 0) flagOff frame (replicate 256 0))
+
+-- what the reading end makes of such a reply's text: the number, the kind, the text's place and its length
+abbrev textTold : List ℕ → List ℕ
+textTold frame =
+    let told = pointAnswer (pointValue (groups (4001 ∷ 1 ∷ [])) false frame 1 1) in
+    told .number ∷ told .kind ∷ told .place ∷ told .length ∷ []
+
+-- a record as it was captured before L5, 57 1F 20 7E 7F 80 00 FF hex at 4001, and the reply that has it
+abbrev oldRecord : List ℕ
+oldRecord = 0x08 ∷ 0x1D ∷ 0x07 ∷ 0x0B ∷ 0x24 ∷ 0x34 ∷ 0x57 ∷ 0x1F ∷ 0x20 ∷ 0x7E ∷ 0x7F ∷ 0x80 ∷ 0x00 ∷ 0xFF ∷ []
+
+abbrev oldReply : List ℕ
+oldReply = 0x01 ∷ 0x03 ∷ 0x0E ∷ 0x08 ∷ 0x1D ∷ 0x07 ∷ 0x0B ∷ 0x24 ∷ 0x34 ∷ 0x57 ∷ 0x1F ∷ 0x20 ∷ 0x7E ∷ 0x7F ∷ 0x80 ∷ 0x00 ∷ 0xFF ∷ 0xE0 ∷ 0x9C ∷ []
 
 -- ---- the cases
 unfoldable pub marked : List Case
@@ -202,10 +221,13 @@ marked =
     ∷ groupBytes (tableWith 16 (bytesFrom 0x80 128)) 3001 64 gives bytesFrom 0x80 128
     ∷ groupBytes (tableWith 400 everyByte) 5101 64 gives everyByte
     ∷ groupBytes (tableWith 656 everyByte) 7101 64 gives everyByte
-    -- and the value of a text in the table is the cleaned one
+    -- and the value that a text is captured with is the cleaned one
     ∷ valueIn (rowOf 4032) (tableWith 392 (0x57 ∷ 0x1F ∷ 0x20 ∷ 0x7E ∷ 0x7F ∷ 0x80 ∷ 0x00 ∷ 0xFF ∷ [])) 4032
     gives (0x57 ∷ 0x3F ∷ 0x20 ∷ 0x7E ∷ 0x3F ∷ 0x3F ∷ 0x00 ∷ 0x3F ∷ [])
     ∷ valueIn (rowOf 14016) (tableWith 1408 (bytesFrom 0x77 16)) 14016 gives (bytesFrom 0x77 8 ++ replicate 8 0x3F)
+    -- what lies in archive memory is served as it is, and read as it stands
+    ∷ replied oldRecord gives oldReply
+    ∷ textTold oldReply gives (doneNo ∷ 5 ∷ 9 ∷ 8 ∷ [])
     ∷ []
 
 -- ---- the check

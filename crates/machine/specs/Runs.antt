@@ -28,7 +28,7 @@ pub record Replying (Contract : PollAnswer → List ℕ → List ℕ → Type 0)
   pub is : o ≡ replied (answer .number) (answer .length) buffer
   pub left : s ≡ answer .state
 
--- of a scan and a poll the contract says that the live table is left as it was lent
+-- a scan and a poll leave no other live table than the one that they were lent: their contracts say so (`kept`)
 abbrev pub Meets : State → List ℕ → Call → Outcome → State → List ℕ → Type 0
 Meets s m unlock = Answering (Unlocked s m)
 Meets s m lock = Answering (Locked s m)

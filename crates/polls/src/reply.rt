@@ -1,5 +1,5 @@
-// Replies, document 01, "Frames", and document 02, L3, built where they are sent from: bytes go once from where they stand to byte 3 of
-// the reply buffer.
+// Replies, document 01, "Frames", and document 02, L3, built where they are sent from: bytes go once from where they stand, live texts
+// cleaned on the way (L5), to byte 3 of the reply buffer.
 ghost use mathlib.Core.Path.{_≡_};
 ghost use Prim.Native.Nat.{_+_, _≤_, _<_};
 ghost use lib.ListN.{length, take, drop};
@@ -80,7 +80,7 @@ pub fn send_registers(
     close_read_reply(buffer, unit, READ, 2 * count)
 }
 
-// Sends live points as a read reply by the function that asked, and answers its length.
+// Sends live points, as a capture has them, as a read reply by the function that asked, and answers its length.
 pub fn send_points(
     buffer: &mut [u8],
     unit: u8,

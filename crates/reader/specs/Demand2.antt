@@ -45,8 +45,8 @@ pub record GetsBack (unit size : ℕ) (d : Bool) (s : Stamp) (t gs : List ℕ) :
   pub whole : recordAnswer gs d (recordReply unit d s t gs) ≡ partAnswer doneCard 3 size
   -- the stamp comes back
   pub stamp : stampAnswer gs d (recordReply unit d s t gs) ≡ stampTold doneCard s
-  -- at every place and point the answer is done, its kind is the row's, and its numbers tell the value of that point in the table, a text's
-  -- being the cleaned one (document 02, L5)
+  -- at every place and point the answer is done, its kind is the row's, and its numbers tell the value that the point was captured with, of
+  -- a text the cleaned one (document 02, L5)
   pub point : (g e : ℕ) (r : Row) → 1 ≤ g → g ≤ 16 → groupAt gs (g - 1) ≡ Points r → 1 ≤ e → e ≤ countAt gs (g - 1) →
       let answer = pointAnswer (pointValue gs d (recordReply unit d s t gs) g e) in
       (answer .number ≡ doneNo) × (answer .kind ≡ kindNumber (r .kind))

@@ -1,4 +1,5 @@
--- Demand 2: the value of a point, in a live table and in a captured stretch. A value is made from the point's own bytes, by kind.
+-- Demand 2: the value of a point captured, made of a live table and of a captured stretch. A value is made from the point's own bytes, by
+-- kind; the value of a text is the cleaned text (document 02, L5).
 use mathlib.Core.List.{List, [], _∷_}
 use mathlib.Core.Bool.{Bool, cond}
 use Prim.Native.Nat.{ℕ, _-_, _*_, _^_}
@@ -39,7 +40,7 @@ unfoldable pub bytesInTable : List ℕ → Row → ℕ → List ℕ
 bytesInTable table r p =
     cond (isBits r) (flagAt table (r .offset) (p - r .first) ∷ []) (take (r .size) (drop (placeOf r p) table))
 
--- the value of a point's bytes in the table; a text's is the cleaned text (document 02, L5)
+-- the value that a point's bytes in the table are captured with: of a text the cleaned one
 abbrev pub tableValue : Kind → List ℕ → PointValue
 tableValue Boolean bs = valueOf Boolean bs
 tableValue Int16 bs = valueOf Int16 bs
@@ -48,7 +49,7 @@ tableValue Int32 bs = valueOf Int32 bs
 tableValue Float bs = valueOf Float bs
 tableValue Text16 bs = valueOf Text16 (cleaned bs)
 
--- the value of point p of row r in a live table
+-- the value that point p of row r has in a capture of the table
 unfoldable pub valueInTable : List ℕ → Row → ℕ → PointValue
 valueInTable table r p = tableValue (r .kind) (bytesInTable table r p)
 

@@ -25,7 +25,7 @@ fn is_clean(b: u8) -> bool
     (b == 0) | is_within(0x20, 0x7E, b as u32)
 }
 
-// How a byte of text is captured, document 02, L5: a clean one as it stands, any other as a question mark.
+// How a byte of text is captured, or polled live, document 02, L5: a clean one as it stands, any other as a question mark.
 fn text_byte(b: u8) -> u8
     ensures { λ r. ⌜ r ≡ textByte b ⌝ }
 {
@@ -35,7 +35,7 @@ fn text_byte(b: u8) -> u8
     0x3F
 }
 
-// How a byte of a value is captured, by kind.
+// How a byte of a value is captured, or polled live, by kind.
 fn stored_byte(kind: Kind, b: u8) -> u8
     ensures { λ r. ⌜ r ≡ storedByte kind b ⌝ }
 {
@@ -50,7 +50,7 @@ fn stored_byte(kind: Kind, b: u8) -> u8
     }
 }
 
-// Writes the bytes of the table from place `from` on, as a kind's are captured, into a part that they fill.
+// Writes the bytes of the table from place `from` on, as a kind's are captured or polled live, into a part that they fill.
 fn write_values(part: &mut [u8], table: &[u8], kind: Kind, from: usize)
     requires { ⌜ from + length (now part) ≤ length (now table) ⌝ }
     ensures { λ _. ⌜ now (part .exit) ≡ tabulate (length (now (part .entry))) (valueByte kind (now (table .entry)) from) ⌝ }
