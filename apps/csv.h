@@ -23,7 +23,8 @@ struct value {
 /*
  * Writes the value's cell, without a comma. Numbers are decimals; a float has 9 digits, which give its pattern back, and an
  * exponent where it is large or small (infinities are `inf`, NaNs `nan`). A text stands in quotes without the zeros that fill it
- * up; a quote is doubled, and a backslash or a byte that is not printable ASCII is \xHH.
+ * up; a quote is doubled, and a backslash or a byte that is not printable ASCII is \xHH. Nothing is cleaned here: gateways before
+ * 2.2 have such bytes in records and in replies.
  */
 void cell_of(char cell[CELL_BYTES], struct value value);
 

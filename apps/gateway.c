@@ -35,7 +35,8 @@ static const char help[] =
     "  --help            this page\n"
     "\n"
     "A poll of live points, by 01 of flags and by 03 of others, reads the table of the latest scan, be it one that a store\n"
-    "already has or one that is refused for its date. Before the first scan all are zeros.\n"
+    "already has or one that is refused for its date. Before the first scan all are zeros. What is captured and what is polled\n"
+    "live has ? for each byte of a text that is neither 00 nor 20 to 7E hex; a recorded trace has the bytes as they were.\n"
     "\n";
 
 struct options {

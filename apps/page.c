@@ -21,8 +21,8 @@ static const char help[] =
     "The CSV files are those that windrow-read wrote, each with its heading, by which the columns are found:\n"
     "  NORTH.csv         stamp, 7101 (core), 7102 (edge), 7105 (air)\n"
     "  SOUTH.csv         stamp, 7103 (core), 7104 (edge), 7105 (air)\n"
-    "  NORTH_TURNS.csv   stamp of each turning; 14001, if there, says why\n"
-    "  SOUTH_TURNS.csv   the same; 14002\n"
+    "  NORTH_TURNS.csv   stamp of each turning; 14001, if there, says why, and 14003 who turned\n"
+    "  SOUTH_TURNS.csv   the same; 14002 and 14004\n"
     "  ALARMS.csv        stamp, point, type, bit: 1805 and 1806 too hot, 1807 and 1808 short of air, north and south. Only\n"
     "                    types 0 and 2 tell when an alarm was cleared, and so only they are taken. Of the last five scans\n"
     "                    that cleared alarms and raised others, every row is listed as it lies in the file; there 1811 and\n"
@@ -64,13 +64,13 @@ struct sum {
 };
 
 #define LAST_WEEK (7 * 86400)
-#define MOST_REASONS 8
+#define MOST_TEXTS 8
 #define MOST_SCANS 5 /* whose alarms are listed, lest the page grows with the season */
 
-/* Why a windrow was turned, and how often. */
-struct reasons {
-    char texts[MOST_REASONS][CELL_BYTES];
-    size_t counts[MOST_REASONS];
+/* What a windrow's records of turnings say in a text, why or by whom, and how often each. */
+struct tally {
+    char texts[MOST_TEXTS][CELL_BYTES];
+    size_t counts[MOST_TEXTS];
     size_t count;
 };
 
@@ -88,7 +88,7 @@ struct season {
     size_t alarm_count;
     struct windrow windrows[WINDROWS];
     struct sum sums[WINDROWS];
-    struct reasons reasons[WINDROWS];
+    struct tally reasons[WINDROWS], drivers[WINDROWS];
     double litres; /* NaN where it is not in the files */
     int64_t from, to;
 };
@@ -97,8 +97,9 @@ enum { NORTH, SOUTH, NORTH_TURNS, SOUTH_TURNS, ALARMS };
 
 /* The points of each windrow. */
 static const struct {
-    const char *core, *edge, *reason, *passes, *hot, *airless;
-} points[WINDROWS] = {{"7101", "7102", "14001", "5103", "1805", "1807"}, {"7103", "7104", "14002", "5104", "1806", "1808"}};
+    const char *core, *edge, *reason, *driver, *passes, *hot, *airless;
+} points[WINDROWS] = {{"7101", "7102", "14001", "14003", "5103", "1805", "1807"},
+                      {"7103", "7104", "14002", "14004", "5104", "1806", "1808"}};
 
 /* What the alarms of the simulated yard are called. */
 static const struct {
@@ -190,20 +191,28 @@ static void plain_text(char text[CELL_BYTES], const char *cell)
     text[length] = 0;
 }
 
-static void count_reason(struct reasons *reasons, const char *cell)
+static void count_text(struct tally *tally, const char *cell)
 {
     char text[CELL_BYTES];
     plain_text(text, cell);
-    for (size_t i = 0; i < reasons->count; i++) {
-        if (strcmp(reasons->texts[i], text) == 0) {
-            reasons->counts[i]++;
+    for (size_t i = 0; i < tally->count; i++) {
+        if (strcmp(tally->texts[i], text) == 0) {
+            tally->counts[i]++;
             return;
         }
     }
-    if (reasons->count == MOST_REASONS)
+    if (tally->count == MOST_TEXTS)
         return;
-    strcpy(reasons->texts[reasons->count], text);
-    reasons->counts[reasons->count++] = 1;
+    strcpy(tally->texts[tally->count], text);
+    tally->counts[tally->count++] = 1;
+}
+
+/* The texts of a column; none where the file does not have it. */
+static void take_texts(struct tally *tally, const struct csv_file *file, const char *heading)
+{
+    size_t column = csv_column(file, heading);
+    for (size_t i = 0; column != NO_COLUMN && i < file->count; i++)
+        count_text(tally, file->rows[i].cells[column]);
 }
 
 static void take_turnings(struct season *season, size_t which)
@@ -211,14 +220,12 @@ static void take_turnings(struct season *season, size_t which)
     const struct csv_file *file = &season->files[NORTH_TURNS + which];
     struct windrow *windrow = &season->windrows[which];
     size_t stamp = need_column(file, "stamp", "a file of turnings");
-    size_t reason = csv_column(file, points[which].reason);
     windrow->turnings = memory_for(file->count, sizeof *windrow->turnings);
     windrow->turning_count = file->count;
-    for (size_t i = 0; i < file->count; i++) {
+    for (size_t i = 0; i < file->count; i++)
         windrow->turnings[i] = time_at(file, i, stamp);
-        if (reason != NO_COLUMN)
-            count_reason(&season->reasons[which], file->rows[i].cells[reason]);
-    }
+    take_texts(&season->reasons[which], file, points[which].reason);
+    take_texts(&season->drivers[which], file, points[which].driver);
 }
 
 static void take_alarms(struct season *season)
@@ -335,18 +342,21 @@ static void write_row(FILE *page, const char *name, const char *format, double n
     fputs("</tr>\n", page);
 }
 
-static void write_reasons(FILE *page, const struct season *season)
+/* A row of texts and how often each was filed; none where neither windrow has any. */
+static void write_tallies(FILE *page, const char *name, const struct tally tallies[WINDROWS])
 {
-    fputs("<tr><th scope=\"row\">Reasons for turning</th>", page);
+    if (tallies[NORTH].count + tallies[SOUTH].count == 0)
+        return;
+    fprintf(page, "<tr><th scope=\"row\">%s</th>", name);
     for (size_t i = 0; i < WINDROWS; i++) {
-        const struct reasons *reasons = &season->reasons[i];
+        const struct tally *tally = &tallies[i];
         fputs("<td>", page);
-        for (size_t j = 0; j < reasons->count; j++) {
+        for (size_t j = 0; j < tally->count; j++) {
             fputs(j > 0 ? "<br>" : "", page);
-            write_text(page, reasons->texts[j]);
-            fprintf(page, ": %zu", reasons->counts[j]);
+            write_text(page, tally->texts[j]);
+            fprintf(page, ": %zu", tally->counts[j]);
         }
-        fputs(reasons->count == 0 ? "–</td>" : "</td>", page);
+        fputs(tally->count == 0 ? "–</td>" : "</td>", page);
     }
     fputs("</tr>\n", page);
 }
@@ -359,8 +369,8 @@ static void write_table(FILE *page, const struct season *season)
           page);
     write_row(page, "Turnings", "%.0f", (double)season->windrows[NORTH].turning_count,
               (double)season->windrows[SOUTH].turning_count);
-    if (season->reasons[NORTH].count + season->reasons[SOUTH].count > 0)
-        write_reasons(page, season);
+    write_tallies(page, "Reasons for turning", season->reasons);
+    write_tallies(page, "Turned by, as filed: ? for each byte typed that is no printable ASCII", season->drivers);
     write_row(page, "Too hot: raised over 70 °C, until cleared", "%.1f h", north->hot_hours, south->hot_hours);
     write_row(page, "Short of air, until cleared", "%.1f h", north->airless_hours, south->airless_hours);
     write_row(page, "Highest core temperature", "%.1f °C", north->highest, south->highest);

@@ -24,6 +24,8 @@ static const char help[] =
     "FILE is 1-10, or 11 for the alarm file. One FILE alone goes to standard output; FILE=CSV goes to that file, which\n"
     "is replaced when all is read. Without a FILE, n, pointer and requested number of every file are written.\n"
     "A record whose date or time does not exist is told and left out; the status is then 1.\n"
+    "Texts are written as they come, and what is no printable ASCII in them as \\xHH. Since 2.2 gateways have ? for such a\n"
+    "byte, but not for 00, when they capture and when live points are polled; records of before stay as they were filed.\n"
     "SETTINGS are the gateway's own: unit, date order, the files' groups, speed and parity of the line.\n"
     "\n"
     "  --live        points of the live table instead of files, a line each: point, kind and value. FIRST-LAST are points\n"

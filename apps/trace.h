@@ -1,6 +1,6 @@
 /*
  * A trace: what a gateway scanned, one record a scan without a header, each a stamp (month, day, year, hour, minute, second) and
- * the live table.
+ * the live table, its texts as they were put, clean or not.
  */
 #ifndef TRACE_H
 #define TRACE_H

@@ -19,7 +19,9 @@ const char yard_help[] =
     "  4001 NORTH, 4002 SOUTH\n"
     "  5101 turner passes and 5102 litres of water in all; 5103 passes on north, 5104 on south\n"
     "  7101 north's core, 7102 its edge, 7103 south's core, 7104 its edge, 7105 the air: degrees Celsius\n"
-    "  14001 why north was turned last, 14002 why south was\n";
+    "  14001 why north was turned last, 14002 why south was\n"
+    "  14003 who turned north last, 14004 who turned south, as an old handheld types it in code page 437: J\\x81rgen and Zo\\x89,\n"
+    "        which are captured and polled as J?rgen and Zo?\n";
 
 #define MINUTE 60
 #define HOUR 3600
@@ -49,6 +51,10 @@ const char yard_help[] =
 /* The one fan is at south first, and is moved every third day as work begins. What it blows is too little for the model. */
 #define FAN_DAYS 3
 #define FAN_MOVED (WORK_BEGINS + 10 * MINUTE)
+
+/* Who turns north and who turns south, Jürgen and Zoë, as an old handheld types them in code page 437. */
+#define NORTH_DRIVER "J\x81rgen"
+#define SOUTH_DRIVER "Zo\x89"
 
 /* Alarms come and go at different values, lest one flickers. */
 #define HOT_ON 70.0
@@ -198,12 +204,13 @@ static bool is_watering(const struct pile *pile, int64_t now)
     return now < pile->watering_until;
 }
 
-static void turn(struct pile *pile, const char *reason, int64_t now)
+static void turn(struct pile *pile, const char *reason, const char *driver, int64_t now)
 {
     pile->turned_at = now;
     pile->turning_until = now + TURN_SECONDS;
     pile->passes++;
     pile->reason = reason;
+    pile->driver = driver;
 }
 
 static void work_on_north(struct pile *north, int64_t now)
@@ -211,9 +218,9 @@ static void work_on_north(struct pile *north, int64_t now)
     if (!is_working_time(now) || now - north->turned_at < REST_SECONDS)
         return;
     if (has_lasted(&north->heat, now))
-        turn(north, "too hot", now);
+        turn(north, "too hot", NORTH_DRIVER, now);
     else if (has_lasted(&north->air, now))
-        turn(north, "short of air", now);
+        turn(north, "short of air", NORTH_DRIVER, now);
 }
 
 static void work_on_south(struct pile *south, int64_t now, int64_t began)
@@ -221,7 +228,7 @@ static void work_on_south(struct pile *south, int64_t now, int64_t began)
     int64_t day = now / DAY - began / DAY;
     bool is_the_day = day > 0 && day % CALENDAR_DAYS == 0 && is_working_time(now) && time_of_day(now) >= CALENDAR_HOUR;
     if (is_the_day && south->turned_at / DAY != now / DAY)
-        turn(south, "calendar", now);
+        turn(south, "calendar", SOUTH_DRIVER, now);
 }
 
 static void water(struct yard *yard, struct pile *pile, double hours)
@@ -251,7 +258,7 @@ static struct pile new_pile(double moisture, double air, int64_t now)
     struct pile pile = {
         .core = air + 4, .edge = air + 2, .oxygen = 20, .moisture = moisture, .food = 1, .exposed = NEW_EXPOSED,
         .heat = {NOT_NOW, false}, .air = {NOT_NOW, false},
-        .turned_at = now, .turning_until = now, .watering_until = now, .passes = 0, .reason = "",
+        .turned_at = now, .turning_until = now, .watering_until = now, .passes = 0, .reason = "", .driver = "",
     };
     return pile;
 }
@@ -328,4 +335,6 @@ void yard_fill(const struct yard *yard, uint8_t table[WINDROW_TABLE_BYTES])
     windrow_put_int32(table, 5104, south->passes);
     windrow_put_text(table, 14001, north->reason);
     windrow_put_text(table, 14002, south->reason);
+    windrow_put_text(table, 14003, north->driver);
+    windrow_put_text(table, 14004, south->driver);
 }

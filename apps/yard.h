@@ -1,6 +1,7 @@
 /*
  * A simulated yard: two windrows over a season. North is turned when its probe says so (too hot, or short of air), south by the
- * calendar; one fan is moved between the two. The same steps give the same season every time.
+ * calendar; one fan is moved between the two. Who turned is typed on an old handheld, with bytes that are no ASCII. The same steps
+ * give the same season every time.
  */
 #ifndef YARD_H
 #define YARD_H
@@ -28,7 +29,7 @@ struct pile {
     int64_t turned_at; /* seconds, when it was turned last */
     int64_t turning_until, watering_until;
     int32_t passes;
-    const char *reason;
+    const char *reason, *driver; /* of the last turning */
 };
 
 struct yard {

@@ -173,7 +173,8 @@ struct windrow_gateway_answer windrow_gateway_alarm(struct windrow_state state, 
  * A scan of the live table, 1,424 bytes, at a date and a time (windrow_stamp.h); a clock may go back. The first scan after
  * fresh only remembers the table's Booleans. A later one, if running, compares them with those remembered. Each file of a
  * laid-out limit over 0 whose trigger went from 0 to 1 captures a record of this table and stamp, behind the one captured
- * last, or over record 1 where that was the last record. Slots log to the alarm file: types 0 and 2 any change of their point,
+ * last, or over record 1 where that was the last record. Its texts are clean (windrow_points.h), while the table keeps its
+ * bytes; before 2.2 they were captured as they stood. Slots log to the alarm file: types 0 and 2 any change of their point,
  * types 1 and 3 a rise only. Of one scan the records of points that fell (new bit 0) come first, then those of points that rose
  * (1), each by point, then slot, the lowest number first; before 2.1 all went by point, then slot. Running or not, the Booleans
  * are then remembered. Refused with 3 or 4.
@@ -204,10 +205,11 @@ struct windrow_poll_answer {
  * and of the live table, 1,424 bytes, a run of points within one row, each counting as one whatever its size (windrow_points.h):
  *
  *   01 on 1801-1928               as many flags as the quantity says, packed eight to a byte from the first one asked
- *   03 on a point of another row  as many points as the quantity says, as they stand in the table
+ *   03 on a point of another row  as many points as the quantity says, as they stand in the table, but texts clean
  *
  * The table is the one that the poll is lent, whatever was scanned and whether running or not: lend the one that the probes fill.
- * Live points are read before the first scan too, so fill it first.
+ * Live points are read before the first scan too, so fill it first. Records are sent as they lie in the archive: a text of one
+ * that was captured before 2.2 may have any bytes.
  *
  * The exception is the first that applies: WINDROW_ILLEGAL_FUNCTION to another function; WINDROW_ILLEGAL_VALUE to a frame that
  * is not of 8 bytes; WINDROW_ILLEGAL_ADDRESS to another address, and so to 01 on what is no flag and to 03 on a flag;

@@ -18,11 +18,16 @@
  * Every accessor answers whether the point is of its kind; if not, it changes nothing. Look at the answer: a value that is put to
  * no point is lost. A table is WINDROW_TABLE_BYTES bytes.
  *
+ * Clean text: the table keeps the bytes that are put, but the record that a scan captures and the reply to a poll of live texts
+ * have 3F hex ('?') for each byte of a text that is neither 00 nor 20 to 7E hex, in both text rows, each byte by itself, behind a
+ * 00 too (windrow_clean_byte). No other kind of point is changed. Gateways before 2.2 captured and sent texts as they stood; what
+ * they have filed lies in the archive as they filed it, and is polled so.
+ *
  * A poll reads live points, as the table has them at that moment: any run within one row, from the point on that is the address.
  * The quantity counts points, each as one whatever its size, so that a reply may have more bytes of data than twice the quantity,
  * or fewer; it has WINDROW_MOST_DATA (250) at most. They are the bytes that a record has for a group of the same points: as they
- * stand in the table, and flags packed afresh from the first one asked, eight to a byte, the lowest bit first, spare high bits 0.
- * windrow_request makes the request and windrow_reply_points takes the reply (windrow_reader.h).
+ * stand in the table, but texts clean, and flags packed afresh from the first one asked, eight to a byte, the lowest bit first,
+ * spare high bits 0. windrow_request makes the request and windrow_reply_points takes the reply (windrow_reader.h).
  */
 #ifndef WINDROW_POINTS_H
 #define WINDROW_POINTS_H
@@ -230,7 +235,19 @@ static inline bool windrow_get_float(const uint8_t *table, uint32_t point, float
     return true;
 }
 
-/* A text of up to 8 or 16 bytes. A shorter one is filled up with zeros; a longer one is not put, and the answer is false. */
+/*
+ * A text's byte as it is captured and polled live: clean text, above. For firmware that compares its table with a record, and for
+ * software that can't bear the texts that gateways before 2.2 have filed.
+ */
+static inline uint8_t windrow_clean_byte(uint8_t byte)
+{
+    return byte == 0x00 || (0x20 <= byte && byte <= 0x7E) ? byte : 0x3F;
+}
+
+/*
+ * A text of up to 8 or 16 bytes, which are put as they are, clean or not. A shorter one is filled up with zeros; a longer one is
+ * not put, and the answer is false.
+ */
 static inline bool windrow_put_text(uint8_t *table, uint32_t point, const char *text)
 {
     struct windrow_row row = windrow_row_of(point);
@@ -243,7 +260,7 @@ static inline bool windrow_put_text(uint8_t *table, uint32_t point, const char *
     return true;
 }
 
-/* The text's 8 or 16 bytes and a zero behind them: 17 bytes hold any. */
+/* The text's 8 or 16 bytes, as they are in the table, and a zero behind them: 17 bytes hold any. */
 static inline bool windrow_get_text(const uint8_t *table, uint32_t point, char text[17])
 {
     struct windrow_row row = windrow_row_of(point);

@@ -69,6 +69,11 @@ struct windrow_stamp_answer {
  * A point's value: see enum windrow_kind (windrow_points.h) for what bits, place and length mean; those that its kind does not
  * use are 0. A text has no zero behind it and may be filled up with zeros: printf("%.*s", (int)p.length, (const char *)frame +
  * p.place).
+ *
+ * A text's bytes are those that the record has. In one that was captured by 2.2 or later they are 00 and 20 to 7E hex alone. One
+ * that an earlier release has captured may have any, and stays in the archive when the gateway is brought up to date; a reply does
+ * not tell which it is. So what can't bear other bytes hands each through windrow_clean_byte (windrow_points.h), which leaves
+ * those of a clean text as they are.
  */
 struct windrow_point {
     uint32_t number;
@@ -163,7 +168,8 @@ static inline bool windrow_reply_registers(const uint8_t *frame, size_t frame_le
  * points (windrow_points.h) or this is no reply with so many bytes, by their function and with a right CRC.
  *
  * Hand in the first point and the count that were asked: any reply by the same function with so many bytes is taken, a record too,
- * and of flags any count that takes as many bytes. The accessors can't tell which points were put.
+ * and of flags any count that takes as many bytes. The accessors can't tell which points were put. Texts are put as they come:
+ * gateways since 2.2 send them clean (windrow_points.h), those of 2.0 and 2.1 with any bytes.
  */
 static inline bool windrow_reply_points(const uint8_t *frame, size_t frame_length, uint8_t table[WINDROW_TABLE_BYTES],
                                         uint32_t first, uint32_t count)

@@ -141,7 +141,7 @@ def answers(files, records, unit=17):
 
 
 def live_answers(table, unit=17):
-    """A gateway that answers polls of live points well, of the rows that 01 and 03 read."""
+    """A gateway that answers polls of live points well, of the rows that 01 and 03 read; before 2.2, so that no text is cleaned."""
 
     def answer(asked, function, first, quantity, _count):
         if asked != unit:

@@ -153,6 +153,23 @@ class Page(RecordsCase):
             self.assertIn(text, page)
         self.assertNotIn("<script", page)
 
+    def table_row(self, heading):
+        """The cells of a row of the table, whose heading begins so; None where there is no such row."""
+        self.expect(FINE, "", "page", "out.html", *self.NAMES)
+        page = self.read("out.html").decode()
+        row = re.search("<tr><th scope=\"row\">%s[^<]*</th><td>(.*)</td><td>(.*)</td></tr>" % heading, page)
+        return row and row.groups()
+
+    def test_why_and_by_whom(self):
+        """Texts as they were filed, and how often; a row only where one windrow has any."""
+        self.assertEqual(self.table_row("Reasons for turning"), ("too hot: 1", "–"))
+        self.assertIsNone(self.table_row("Turned by, as filed"))
+        turns = "".join("2026-05-01T%02d:00:00,%s\n" % turn for turn in
+                        ((8, '"calendar","Zo?"'), (9, '"calendar","<M&M>"'), (10, '"calendar","Zo?"'), (11, '"","Zo\\x89"')))
+        self.write("south-turns", "stamp,14002,14004\n" + turns)
+        self.assertEqual(self.table_row("Reasons for turning"), ("too hot: 1", "calendar: 3<br>: 1"))
+        self.assertEqual(self.table_row("Turned by, as filed"), ("–", "Zo?: 2<br>&lt;M&amp;M&gt;: 1<br>Zo\\x89: 1"))
+
     def order(self, *alarms):
         """The listed alarms of a season that has these: stamp, point, type and whether it was raised; None where none are listed."""
         self.write("alarms", "stamp,point,type,bit\n" + "".join("2026-05-01T%s,%s,%d,%d\n" % alarm for alarm in alarms))

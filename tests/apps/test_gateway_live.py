@@ -23,9 +23,9 @@ class LiveCase(GatewayCase):
         self.write("s", SETTINGS)
 
     def has(self, line, table, polls):
-        """Each poll, a function, a first point and a quantity, is answered with the table's bytes."""
+        """Each poll, a function, a first point and a quantity, is answered with the table's bytes, texts clean."""
         for function, first, count in polls:
-            wanted = reply(17, table.points(first, count), function)
+            wanted = reply(17, table.cleaned().points(first, count), function)
             self.assertEqual(line.ask(request(17, function, first, count), len(wanted)), wanted, (function, first, count))
 
     def held(self, *words):

@@ -100,14 +100,14 @@ class Values(LiveCase):
                          ["7102", "3001", "3002", "3003", "7101", "3002"])
 
     def test_of_a_gateway(self):
-        """windrow-gateway's, over a trace; only the unit of its settings is needed."""
+        """windrow-gateway's, over a trace, which sends texts clean; only the unit of its settings is needed."""
         table = filled()
         gateway = self.gateway_over(record(Table(), 0) + record(table, 1), "unit 17\ngap 5\nfile 1 4 5101:1\ndates day-first\n")
         self.write("s", SETTINGS)
         rows = self.shows(gateway)
         self.assertEqual(len(rows), 432)
         for row in rows:
-            self.check_row(row, int(row[0]), table)
+            self.check_row(row, int(row[0]), table.cleaned())
 
 
 class Answers(LiveCase):

@@ -1,4 +1,4 @@
-"""windrow-read against windrow-gateway: every cell is what the test put into the trace."""
+"""windrow-read against windrow-gateway: every cell is what the test put into the trace, texts clean."""
 import csv
 import io
 import math
@@ -9,7 +9,7 @@ import stores
 from cells import is_float, text_cell
 from gateways import GatewayCase
 from support import DEADLINE, FINE, TROUBLE
-from traces import RECORD_BYTES, Table, pulses, record
+from traces import RECORD_BYTES, Table, clean, pulses, record
 
 KINDS = "unit 17\narchive 32768\ngap 1\n%sfile 1 %d 1801:10 3001:2 4001:1 5101:2 0:0 7101:3 14001:1\ntrigger 1 1801\n"
 HEADING = ["record", "stamp", *map(str, range(1801, 1811)), *"3001 3002 4001 5101 5102 7101 7102 7103 14001".split()]
@@ -44,11 +44,11 @@ class Kinds(RecordsCase):
         flags = [str(int(point == 1801 or point == 1801 + i % 10)) for point in range(1801, 1811)]
         self.assertEqual(row[:12], [str(number), stamp, *flags])
         self.assertEqual(row[12:14], [str(INT16S[i % 7]), str(INT16S[(i + 3) % 7])])
-        self.assertEqual(row[14], text_cell(TEXT8S[i % 7]))
+        self.assertEqual(row[14], text_cell(clean(TEXT8S[i % 7])))
         self.assertEqual(row[15:17], [str(INT32S[i % 7]), str(INT32S[(i + 2) % 7])])
         for place in 0, 1, 2:
             self.assertTrue(is_float(row[17 + place], *FLOATS[(i + 4 * place) % 11]), row)
-        self.assertEqual(row[20], text_cell(TEXT16S[i % 7]))
+        self.assertEqual(row[20], text_cell(clean(TEXT16S[i % 7])))
 
     def check(self, count, limit, dates=""):
         """`count` records in a file of `limit`: the newest of them, oldest first, each under its number."""

@@ -5,6 +5,10 @@ import struct
 INT16, TEXT8, INT32, FLOAT, TEXT16 = (3001, 2, 16), (4001, 8, 144), (5101, 4, 400), (7101, 4, 656), (14001, 16, 1168)
 TABLE_BYTES = 1424
 RECORD_BYTES = 1430
+TEXT_ROW_BYTES = 256  # of both: 32 texts of 8, and 16 of 16
+
+# Document 02, L5: each byte of a text as it is captured, and polled live.
+CLEAN = b"\0" + b"?" * 31 + bytes(range(0x20, 0x7F)) + b"?" * 129
 
 # Document 02, L3: the function by which a row is polled, its first and last point, the most points in one poll.
 POLLED = [(1, 1801, 1928, 128), (3, 3001, 3064, 64), (3, 4001, 4032, 31), (3, 5101, 5164, 62), (3, 7101, 7228, 62),
@@ -20,6 +24,10 @@ def polls_of(first, last):
 ALL_POLLS = [poll for _, first, last, _ in POLLED for poll in polls_of(first, last)]
 
 
+def clean(text):
+    return text.translate(CLEAN)
+
+
 class Table:
     def __init__(self, content=bytes(TABLE_BYTES)):
         self.bytes = bytearray(content)
@@ -29,8 +37,15 @@ class Table:
         self.bytes[byte] = self.bytes[byte] | bit if on else self.bytes[byte] & ~bit
         return self
 
+    def cleaned(self):
+        """A copy whose texts are clean."""
+        copy = Table(self.bytes)
+        for _, _, at in TEXT8, TEXT16:
+            copy.bytes[at:at + TEXT_ROW_BYTES] = clean(copy.bytes[at:at + TEXT_ROW_BYTES])
+        return copy
+
     def points(self, first, count):
-        """The data of a reply with live points: as they stand, but flags are packed from the first one asked."""
+        """The bytes of points as they stand, but flags are packed from the first one on; of a clean copy, what a poll reads."""
         for (start, size, at), (_, _, last, _) in zip((INT16, TEXT8, INT32, FLOAT, TEXT16), POLLED[1:]):
             if start <= first <= last:
                 return bytes(self.bytes[at + (first - start) * size:at + (first - start + count) * size])

@@ -1,9 +1,9 @@
 /*
  * A gateway's firmware in C: makes a gateway, defines a file, starts it, sets a trigger and an alarm slot, scans, polls, hands
  * the replies to the reading end, and is refused what the service card refuses; asserts the header's layout. Offsets and sizes
- * are worked out by hand from C's rules for x86-64, and the expected lines are written from document 01, those of live points and
- * of the order of alarms from document 02, L3 and L4; CRCs, those of the requests below too, were worked out by the bit rule in
- * Python. Both headers and both libraries serve one program.
+ * are worked out by hand from C's rules for x86-64, and the expected lines are written from document 01, those of live points, of
+ * the order of alarms and of clean text from document 02, L3 to L5; CRCs, those of the requests below too, were worked out by the
+ * bit rule in Python. Both headers and both libraries serve one program.
  */
 #include <assert.h>
 #include <stdio.h>
@@ -16,14 +16,15 @@
 #define ROOMY 11006 /* the alarm file's 11,000 bytes and one bare stamp */
 #define TIGHT 11005
 
-#define TWO_RECORDS 11028 /* the alarm file, and two records of 14 bytes before it */
+#define RECORDS 11049 /* the alarm file, and before it two records of 14 bytes, or one of 49 with texts */
 #define RECORD 14
+#define TEXT_RECORD 49
 #define ALARM 22
 
 #define LENT 0xA5 /* what a reply buffer holds as it is lent */
 
 static uint8_t archive[ROOMY + 1];
-static uint8_t records[TWO_RECORDS];
+static uint8_t records[RECORDS];
 static uint8_t live[1424];
 static uint8_t reply[WINDROW_LEAST_REPLY + 44];
 
@@ -32,6 +33,7 @@ static const uint16_t fine[32] = {7101, 61};                  /* 6 + 61 x 4 = 25
 static const uint16_t over_long[32] = {7101, 61, 3001, 1};    /* 252 bytes */
 static const uint16_t past_the_row[32] = {0, 0, 7228, 1, 7228, 2}; /* place 3 ends at 7229 */
 static const uint16_t watched[32] = {1803, 9, 3001, 1, 5101, 1}; /* 6 + 2 + 2 + 4 = 14 bytes */
+static const uint16_t with_texts[32] = {4031, 2, 3001, 1, 1803, 8, 14016, 1, 5101, 1, 7101, 1}; /* 6 + 16 + 2 + 1 + 16 + 4 + 4 */
 
 /* A struct of this size, and no byte of it outside its fields. */
 #define WHOLE(name, size, fields) assert(sizeof(struct name) == (size) && (fields) == (size))
@@ -594,6 +596,87 @@ static void cleared_before_raised(void)
     printf("filled bytes past alarm 500: %u\n", filled_of(records + 500 * ALARM, sizeof records - 500 * ALARM));
 }
 
+/* The last two texts of 8 and the last of 16, as an old handheld has typed them. */
+static const uint8_t typed_8[] = {0x80, 0x1F, 0x20, 0x7E, 0x7F, 0x4E, 0xFF, 0x00, 0x00, 0x81, 0x4E, 0x00, 0x0A, 0x3F, 0x5C, 0x99};
+static const uint8_t typed_16[] = {0x99, 0x81, 0x6C, 0x6C, 0x65, 0x72, 0x00, 0x00, 0x1F, 0x20, 0x7E, 0x7F, 0x80, 0xFF, 0x00, 0x09};
+
+/* What is no text has such bytes too: 3001, 5101 and 5102, 7101, and 1803-1810, which are packed as 9F. */
+static void fill_texts(void)
+{
+    static const uint8_t of_16_bits[] = {0x1F, 0x80}, of_32_bits[] = {0xFF, 0x7F, 0x80, 0x01, 0x81, 0x1F, 0x7F, 0x80};
+    static const uint8_t pattern[] = {0x80, 0x7F, 0x1F, 0xFF};
+    memset(live, 0, sizeof live);
+    live[0] = 0x7C;
+    live[1] = 0x02;
+    memcpy(live + 16, of_16_bits, sizeof of_16_bits);
+    memcpy(live + 384, typed_8, sizeof typed_8);
+    memcpy(live + 400, of_32_bits, sizeof of_32_bits);
+    memcpy(live + 656, pattern, sizeof pattern);
+    memcpy(live + 1408, typed_16, sizeof typed_16);
+}
+
+/* A rise of 1801 captures a record with texts, and logs an alarm. */
+static struct windrow_state capture_texts(void)
+{
+    struct windrow_state s = windrow_gateway_fresh(false, 17, records, sizeof records).state;
+    s = windrow_gateway_trigger(s, records, sizeof records, 1, 1801).state;
+    s = windrow_gateway_alarm(s, records, sizeof records, 1, 1801, 0, 7101).state;
+    s = windrow_gateway_unlock(s, records, sizeof records).state;
+    s = windrow_gateway_define(s, records, sizeof records, 1, with_texts, 1).state;
+    s = told("start with texts", windrow_gateway_start(s, records, sizeof records));
+    s = scan("1801 off", s, 11, 51);
+    live[0] |= 0x01;
+    s = scan("1801 on", s, 11, 52);
+    show("record 1", 0, TEXT_RECORD);
+    show("alarm 1", TEXT_RECORD, ALARM);
+    return s;
+}
+
+static void read_text(uint32_t g, uint32_t e)
+{
+    struct windrow_point text = windrow_reader_point(with_texts, 32, false, reply, TEXT_RECORD + 5, g, e);
+    assert(text.number == WINDROW_DONE && text.kind == WINDROW_TEXT);
+    printf("read back: %u bytes from %u on:", text.length, text.place);
+    show_bytes(reply + text.place, text.length);
+}
+
+/* Record 1, and its texts through the reading end. */
+static struct windrow_state poll_texts(const char *what, struct windrow_state s)
+{
+    s = poll(what, s, FRAME(0x11, 0x03, 0x02, 0xD1, 0x00, 0x01, 0xD7, 0x1B));
+    read_text(1, 1);
+    read_text(1, 2);
+    read_text(4, 1);
+    return s;
+}
+
+static struct windrow_state poll_live_texts(struct windrow_state s)
+{
+    s = poll("live texts of 8", s, FRAME(0x11, 0x03, 0x0F, 0xBF, 0x00, 0x02, 0xF4, 0x6B));
+    s = poll("live texts of 16", s, FRAME(0x11, 0x03, 0x36, 0xBF, 0x00, 0x02, 0xF8, 0xF7));
+    s = poll("a live 16-bit point", s, FRAME(0x11, 0x03, 0x0B, 0xB9, 0x00, 0x01, 0x55, 0x5B));
+    s = poll("live 32-bit points", s, FRAME(0x11, 0x03, 0x13, 0xED, 0x00, 0x02, 0x52, 0x2A));
+    s = poll("a live float", s, FRAME(0x11, 0x03, 0x1B, 0xBD, 0x00, 0x01, 0x10, 0x5A));
+    return poll("live flags", s, FRAME(0x11, 0x01, 0x07, 0x0B, 0x00, 0x08, 0x4F, 0xEA));
+}
+
+/*
+ * What is captured and what is polled live is clean, and the table keeps its bytes (document 02, L5). A record that lies in the
+ * archive as a gateway before 2.2 has filed it is polled and read as it is.
+ */
+static void clean_text(void)
+{
+    static uint8_t before[sizeof live];
+    fill_texts();
+    memcpy(before, live, sizeof before);
+    before[0] |= 0x01;
+    struct windrow_state s = poll_live_texts(poll_texts("record 1 by number", capture_texts()));
+    printf("the table as before %d\n", memcmp(live, before, sizeof before) == 0);
+    memcpy(records + 6, typed_8, sizeof typed_8);
+    memcpy(records + 25, typed_16, sizeof typed_16);
+    poll_texts("record 1 as filed before 2.2", s);
+}
+
 int main(void)
 {
     check_layout();
@@ -603,5 +686,6 @@ int main(void)
     refused_polls(unanswered(no_live_points(live_points(exceptions(polls(scans()))))));
     poll_unscanned();
     cleared_before_raised();
+    clean_text();
     return 0;
 }

@@ -1,7 +1,7 @@
 /*
- * A site driver in C: decodes the Omni bulletin's example (floats 7101-7103 and counters 5101-5103, 29 August 2007 11:36:52) and
- * the last days of February, and asserts the header's layout. The replies are written out by hand from document 01; their CRCs
- * were worked out by the bit rule in Python.
+ * A site driver in C: decodes the Omni bulletin's example (floats 7101-7103 and counters 5101-5103, 29 August 2007 11:36:52),
+ * the last days of February, and texts as gateways before 2.2 captured them; asserts the header's layout. The replies are written
+ * out by hand from document 01; their CRCs were worked out by the bit rule in Python.
  */
 #include <assert.h>
 #include <stdio.h>
@@ -27,6 +27,14 @@ static const uint8_t reply[] = {
 static const uint16_t bare_stamp[GROUP_NUMBERS] = {0};
 static const uint8_t leap_day[] = {0x01, 0x03, 0x06, 0x02, 0x1D, 0x18, 0x0B, 0x24, 0x34, 0xA1, 0x20};
 static const uint8_t no_such_day[] = {0x01, 0x03, 0x06, 0x02, 0x1E, 0x18, 0x0B, 0x24, 0x34, 0xE5, 0x20};
+
+/* A text of 8 and one of 16 with bytes that nothing captures since document 02, L5. What a record has is read as it is. */
+static const uint16_t texts[GROUP_NUMBERS] = {4001, 1, 14001, 1};
+static const uint8_t old_texts[] = {
+    0x01, 0x03, 0x1E, 0x08, 0x1D, 0x07, 0x0B, 0x24, 0x34,
+    0x47, 0x72, 0x81, 0x6E, 0x1F, 0x00, 0x7F, 0xFF,
+    0x00, 0x41, 0x80, 0x0A, 0x20, 0x7E, 0x7F, 0x1F, 0x00, 0x00, 0xFF, 0x42, 0x5C, 0x3F, 0x99, 0x00,
+    0x53, 0x00};
 
 static void check_layout(void)
 {
@@ -67,6 +75,20 @@ static void print_point(uint32_t g, uint32_t e)
         printf("place %u point %u: kind %u value %d\n", g, e, p.kind, (int)(int32_t)p.bits);
 }
 
+/* A text as the record has it, and as windrow_clean_byte hands it on to what can't bear other bytes. */
+static void print_text(uint32_t g)
+{
+    struct windrow_point p = windrow_reader_point(texts, GROUP_NUMBERS, false, old_texts, sizeof old_texts, g, 1);
+    assert(p.number == WINDROW_DONE && p.kind == WINDROW_TEXT);
+    printf("text in place %u, %u bytes from %u:", g, p.length, p.place);
+    for (uint32_t i = 0; i < p.length; i++)
+        printf(" %02X", old_texts[p.place + i]);
+    printf("; clean:");
+    for (uint32_t i = 0; i < p.length; i++)
+        printf(" %02X", windrow_clean_byte(old_texts[p.place + i]));
+    printf("\n");
+}
+
 int main(void)
 {
     check_layout();
@@ -85,5 +107,7 @@ int main(void)
         printf("%u numbers: refused %u carrying %u\n", (unsigned)numbers, record.number, record.carried);
     }
     printf("no frame: refused %u\n", windrow_reader_record(groups, GROUP_NUMBERS, false, reply, 0).number);
+    print_text(1);
+    print_text(2);
     return 0;
 }

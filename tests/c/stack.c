@@ -30,6 +30,7 @@ static struct windrow_gateway_answer answer;
 static uint32_t number, bad_place, to_send; /* what is answered by pointer */
 static const struct windrow_stamp stamp = {8, 29, 7, 11, 36, 52};
 static const uint16_t floats[32] = {7101, 61};
+static const uint16_t texts[32] = {4001, 14, 14001, 8};
 
 static uint8_t request[8];
 static uint8_t frame[WINDROW_LEAST_REPLY]; /* the reply to a poll */
@@ -140,11 +141,11 @@ static void next(const char *name, void (*by_value)(void), void (*by_pointer)(vo
     state = answer.state;
 }
 
-/* Ten files of nine 250-byte records on the first ten Booleans, and 32 alarm slots on the last 32. */
+/* Ten files of nine records, 250 bytes of floats or 246 of texts, on the first ten Booleans, and 32 alarm slots on the last 32. */
 static void define_all(void)
 {
     for (uint32_t i = 0; i < 9; i++) {
-        state = windrow_gateway_define(state, archive, sizeof archive, i + 1, floats, 9).state;
+        state = windrow_gateway_define(state, archive, sizeof archive, i + 1, i % 2 == 0 ? floats : texts, 9).state;
         state = windrow_gateway_trigger(state, archive, sizeof archive, i + 1, 1801u + i).state;
     }
     for (uint32_t i = 0; i < 31; i++)
@@ -163,7 +164,7 @@ static void gateway(void)
     next("start", start, start_at);
     next("first scan", scan, scan_at);
     next("quiet scan", scan, scan_at);
-    memset(live, 0xFF, 16);
+    memset(live, 0xFF, sizeof live); /* every flag is on, and every byte of a text is one to be cleaned */
     next("scan of ten files and 32 alarms", scan, scan_at);
     next("stop", stop, stop_at);
 }

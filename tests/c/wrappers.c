@@ -385,10 +385,11 @@ static void refused_points(void)
     refuse_points(7101, 63, over_250, sizeof over_250);            /* more than a poll reads */
 }
 
-/* Replies to polls of live points. That with a text was written by hand. */
+/* Replies to polls of live points. Those with a text were written by hand, the second as a gateway before 2.2 may send it. */
 static void live_points(void)
 {
     static const uint8_t text_reply[] = {0x11, 0x03, 0x08, 0x4E, 0x4F, 0x52, 0x54, 0x48, 0x00, 0x00, 0x00, 0xD1, 0xB1};
+    static const uint8_t old_text_reply[] = {0x11, 0x03, 0x08, 0x4E, 0x81, 0x1F, 0x7F, 0x00, 0xFF, 0x7E, 0x20, 0xD2, 0x4E};
     take_flags(1801, 37, 0x00);
     take_flags(1801, 37, 0xFF);
     take_flags(1892, 37, 0xFF);
@@ -397,6 +398,7 @@ static void live_points(void)
     take_bytes(3001, 3, 16, words_reply, sizeof words_reply);
     take_bytes(3062, 3, 138, words_reply, sizeof words_reply);
     take_bytes(4032, 1, 392, text_reply, sizeof text_reply);
+    take_bytes(4001, 1, 144, old_text_reply, sizeof old_text_reply);
     take_bytes(5163, 2, 648, text_reply, sizeof text_reply);
     take_bytes(7227, 2, 1160, text_reply, sizeof text_reply);
     refused_points();
