@@ -5,12 +5,13 @@ ghost use lib.ListN.{length};
 ghost use Rattle.basics.specs.Lists.{tabulate};
 ghost use Rattle.points.specs.declared.groups.Group.the-variants.{Points};
 ghost use Rattle.points.specs.Groups.{groupsSize, recordSize};
-ghost use Rattle.records.specs.Capture.{isClean, textByte, storedByte, valueByte, capturedPoints, capturedGroup};
+ghost use Rattle.records.specs.Capture.{isClean, textByte, cleaned, isText, valueByte, capturedPoints, capturedGroup};
 ghost use Rattle.records.specs.Record.{capturedGroups, recordOf};
 ghost use Rattle.records.specs.Lent.{LentGroup, LentPlace, Placed, LentDefinition};
 use crate::flags::write_flags;
 use crate::stamp::Stamp;
 use crate::stamp::write_stamp;
+use basics::copy_bytes;
 use basics::is_within;
 use points::Group;
 use points::Kind;
@@ -35,18 +36,29 @@ fn text_byte(b: u8) -> u8
     0x3F
 }
 
-// How a byte of a value is captured, or polled live, by kind.
-fn stored_byte(kind: Kind, b: u8) -> u8
-    ensures { λ r. ⌜ r ≡ storedByte kind b ⌝ }
+// Whether a kind is one of the two text kinds.
+fn is_text(kind: Kind) -> bool
+    ensures { λ r. ⌜ r ≡ isText kind ⌝ }
 {
-    let cleaned = text_byte(b);
     match kind {
-        Kind::Boolean => b,
-        Kind::Int16 => b,
-        Kind::Text8 => cleaned,
-        Kind::Int32 => b,
-        Kind::Float => b,
-        Kind::Text16 => cleaned,
+        Kind::Boolean => false,
+        Kind::Int16 => false,
+        Kind::Text8 => true,
+        Kind::Int32 => false,
+        Kind::Float => false,
+        Kind::Text16 => true,
+    }
+}
+
+// Copies texts into a part of their length, each byte cleaned.
+fn copy_texts(part: &mut [u8], texts: &[u8])
+    requires { ⌜ length (now part) ≡ length (now texts) ⌝ }
+    ensures { λ _. ⌜ now (part .exit) ≡ cleaned (now (texts .entry)) ⌝ }
+{
+    let mut i: usize = 0;
+    while i < part.len() {
+        part[i] = text_byte(texts[i]);
+        i += 1;
     }
 }
 
@@ -55,11 +67,12 @@ fn write_values(part: &mut [u8], table: &[u8], kind: Kind, from: usize)
     requires { ⌜ from + length (now part) ≤ length (now table) ⌝ }
     ensures { λ _. ⌜ now (part .exit) ≡ tabulate (length (now (part .entry))) (valueByte kind (now (table .entry)) from) ⌝ }
 {
-    let mut i: usize = 0;
-    while i < part.len() {
-        part[i] = stored_byte(kind, table[from + i]);
-        i += 1;
+    let values = &table[from..from + part.len()];
+    if is_text(kind) {
+        copy_texts(part, values);
+        return;
     }
+    copy_bytes(part, values);
 }
 
 // Writes the group of `count` points of `row` from `point` on into a part of its size.

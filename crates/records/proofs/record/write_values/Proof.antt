@@ -1,75 +1,77 @@
--- `record::write_values` meets its contract: after i turns the first i bytes are written and the others are as lent. Assumes nothing.
-use mathlib.Core.Path.{_≡_, refl, ap, _∙_}
-use Prim.Native.Nat.{_-_, _≤_}
+-- `record::write_values` meets its contract: the kind says which of the two copies serves. Assumes nothing.
+use mathlib.Core.Path.{_≡_, sym, ap, _∙_}
+use mathlib.Core.Bool.{Bool, cond}
+use mathlib.Core.List.{List}
+use Prim.Native.Nat.{ℕ, _+_, _-_, _≤_}
 use native.Mathlib.Omega.{arith}
-use lib.ListN.{length, set, length-set}
 use borrow.Author.Needs.{needs}
-use Rattle.records.specs.Capture.{valueByte}
+use lib.ListN.{length, take, drop}
+use Rattle.points.specs.declared.table.Kind.{Kind}
 use Rattle.basics.specs.Lists.{tabulate}
-use Rattle.basics.proofs.Lists.{filled, filled-none, filled-next, filled-all}
+use Rattle.records.specs.Capture.{cleaned, isText, valueByte}
+use Rattle.records.proofs.Laws.{values-part}
 use Rattle.records.proofs.record.write_values.Statement.{statement}
 use Rattle.records.proofs.record.write_values.Tie as tie
 
-abbrev Inv-loop : tie.InvT-loop
-Inv-loop part₀ table kind from i₀ part i = (i ≤ length part₀) × (length part ≡ length part₀) × (part ≡ filled (valueByte kind table from) part₀ i)
+add-values : tie.Need-add-values
+add-values c = search needs
 
-abbrev μ-loop : tie.MeasureT-loop
-μ-loop part₀ table kind from i₀ part i = length part₀ - i
+sub-values : tie.Need-sub-values
+sub-values c = search needs
 
-loop-holds : tie.Need-loop-holds Inv-loop μ-loop
-loop-holds c = (omega arith, refl, filled-none _ _)
+part-values-start : tie.Need-part-values-start
+part-values-start c = search needs
 
-add-stored-byte : tie.Need-add-stored-byte Inv-loop μ-loop
-add-stored-byte c = omega (arith, c .before .before .before .before .pre)
+part-values-end : tie.Need-part-values-end
+part-values-end c = search needs
 
-shared-slice-read-stored-byte : tie.Need-shared-slice-read-stored-byte Inv-loop μ-loop
-shared-slice-read-stored-byte c = omega (arith, c .before .before .before .before .before .pre)
+is-text-requires : tie.Need-is-text-requires
+is-text-requires c κs = search needs
 
-stored-byte-requires : tie.Need-stored-byte-requires Inv-loop μ-loop
-stored-byte-requires c κs = search needs
+copy-texts-requires : tie.Need-copy-texts-requires
+copy-texts-requires c κs = search needs
 
-slice-write-part : tie.Need-slice-write-part Inv-loop μ-loop
-slice-write-part c = omega arith
+same-length : tie.Need-same-length
+same-length c = search needs
 
-add-i : tie.Need-add-i Inv-loop μ-loop
-add-i c = omega arith
+-- what the copy for this answer of `is_text` has made of the table's bytes
+written : (kind : Kind) (table : List ℕ) (from n : ℕ) (text : Bool) → text ≡ isText kind → from + n ≤ length table →
+    let values = take (from + n - from) (drop from table) in cond text (cleaned values) values ≡ tabulate n (valueByte kind table from)
+written kind table from n text is fits =
+    let size : from + n - from ≡ n = omega arith in
+    ap (λ k. let values = take k (drop from table) in cond text (cleaned values) values) size
+    ∙ ap (λ b. let values = take n (drop from table) in cond b (cleaned values) values) is ∙ values-part kind table from n fits
 
-loop-less : tie.Need-loop-less Inv-loop μ-loop
-loop-less c = omega arith
-
-loop-again : tie.Need-loop-again Inv-loop μ-loop
-loop-again c =
-    let at = c .before .before .before .loop in
-    let a = c .before .before .before .before .before .before .args in (
-      omega arith,
-      length-set (at .part) (at .i) (c .stored-byte .result) ∙ at .inv .1,
-      ap (λ l. set l (at .i) (c .stored-byte .result)) (at .inv .2)
-          ∙ filled-next (valueByte (a .kind) (a .table .now) (a .from)) (a .part .now) (at .i) (c .stored-byte .result) (omega arith) (c .stored-byte .ensures),
-    )
-
-same-length : tie.Need-same-length Inv-loop μ-loop
-same-length c = c .before .loop .inv .1
-
-returns : tie.Need-returns Inv-loop μ-loop
+returns : tie.Need-returns
 returns c =
-    let a = c .before .before .before .before .args in
-    let at = c .before .loop in
-    let all : at .i ≡ length (a .part .now) = omega arith in
-    at .inv .2 ∙ filled-all _ (a .part .now) (at .i) (omega arith) ∙ ap (λ k. tabulate k (valueByte (a .kind) (a .table .now) (a .from))) all
+    let s = c .before .before .before .before .before .before .before .before .before in
+    let is = sym (c .before .before .before .before .if1 .taken) ∙ c .before .before .before .before .before .is-text .ensures in
+    c .before .before .copy-texts .ensures ∙ written (s .args .kind) (s .args .table .now) (s .args .from) (length (s .args .part .now)) _ is (s .pre)
+
+copy-bytes-requires : tie.Need-copy-bytes-requires
+copy-bytes-requires c κs = search needs
+
+same-length-2 : tie.Need-same-length-2
+same-length-2 c = search needs
+
+returns-2 : tie.Need-returns-2
+returns-2 c =
+    let s = c .before .before .before .before .before .before .before .before .before in
+    let is = sym (c .before .before .before .before .if1 .left) ∙ c .before .before .before .before .before .is-text .ensures in
+    c .before .before .copy-bytes .ensures ∙ written (s .args .kind) (s .args .table .now) (s .args .from) (length (s .args .part .now)) _ is (s .pre)
 
 pub write-values-spec : {M : Type 1} → statement M
 write-values-spec =
     tie.close
     (tie.spec
-    Inv-loop
-    μ-loop
-    loop-holds
-    add-stored-byte
-    shared-slice-read-stored-byte
-    stored-byte-requires
-    slice-write-part
-    add-i
-    loop-less
-    loop-again
+    add-values
+    sub-values
+    part-values-start
+    part-values-end
+    is-text-requires
+    copy-texts-requires
     same-length
-    returns)
+    returns
+    copy-bytes-requires
+    same-length-2
+    returns-2)
