@@ -1,16 +1,16 @@
-//! Calls of one gateway with ten files of 250-byte records and 32 alarm slots. The library is handed the same saved state by value
-//! each time, the expert's calls one state by reference, so that every call does the same work: it judges the whole state, both sets
-//! of definitions, triggers, slots and pointers, then does what it is for.
+//! Calls of one gateway with ten files of records of up to 250 bytes and 32 alarm slots. The library is handed the same saved state
+//! by value each time, the expert's calls one state by reference, so that every call does the same work: it judges the whole state,
+//! both sets of definitions, triggers, slots and pointers, then does what it is for.
 
 use std::hint::black_box;
 
 use ::gateway::ffi::{self, Answer, Slot, State};
 use ::gateway::states::ZEROS;
-use model::points::{groups_from_first_place, TABLE_BYTES};
+use model::points::groups_from_first_place;
 use model::record::AUGUST;
-use reader::random::Random;
 
 use crate::expert::gateway;
+use crate::texts::half_clean_table;
 use crate::{best, report, Times};
 
 pub const CALLS: u32 = 20_000;
@@ -24,15 +24,19 @@ const SLOT_POINTS: u128 = 0xFFFF_FFFF << 96;
 /// Those whose slots log any change, every other one.
 const CLEARING: u128 = 0xAAAA_AAAA << 96;
 
-/// A running gateway that remembers Booleans which are all off.
-pub fn watching() -> State {
+/// The group that a file's records are of: 244 bytes of floats, or 240 of texts.
+pub const FLOATS: (u16, u16) = (7101, 61);
+const TEXTS: (u16, u16) = (4001, 30);
+
+/// A running gateway whose files have this group, and that remembers Booleans which are all off.
+pub fn watching(group: (u16, u16)) -> State {
     let mut s = ZEROS;
     s.site.archive_length = ARCHIVE as u32;
     s.site.unit = 1;
     s.flags.running = true;
     s.seen.scanned = true;
     for file in 0..10 {
-        s.files.layout.groups[32 * file..32 * file + 32].copy_from_slice(&groups_from_first_place(&[(7101, 61)]));
+        s.files.layout.groups[32 * file..32 * file + 32].copy_from_slice(&groups_from_first_place(&[group]));
         s.files.layout.limits[file] = RECORDS_A_FILE;
         s.settings.triggers[file] = 1801 + file as u16;
     }
@@ -44,7 +48,7 @@ pub fn watching() -> State {
 }
 
 fn table(booleans: u128) -> Vec<u8> {
-    let mut table = Random::new(2).bytes(TABLE_BYTES);
+    let mut table = half_clean_table();
     table[..16].copy_from_slice(&booleans.to_le_bytes());
     table
 }
@@ -62,8 +66,8 @@ fn agree(s: State, table: &mut [u8], files: usize, alarms: u16) {
     assert_eq!(after.files.pointers[10], alarms);
 }
 
-fn scan(name: &str, [before, now]: [u128; 2], files: usize, alarms: u16) {
-    let (mut s, mut table) = (watching(), table(now));
+fn scan(name: &str, group: (u16, u16), [before, now]: [u128; 2], files: usize, alarms: u16) {
+    let (mut s, mut table) = (watching(group), table(now));
     s.seen.booleans = before.to_le_bytes();
     agree(s, &mut table, files, alarms);
     let mut archive = vec![0; ARCHIVE];
@@ -84,7 +88,7 @@ fn scan(name: &str, [before, now]: [u128; 2], files: usize, alarms: u16) {
 }
 
 fn lock() -> Times {
-    let mut s = watching();
+    let mut s = watching(FLOATS);
     let mut archive = vec![0; ARCHIVE];
     let proved = best(|| {
         for _ in 0..CALLS {
@@ -107,7 +111,7 @@ extern "C" fn hand_back(s: State) -> Answer {
 
 /// What the state's way in and out costs every call of the library, and none of the expert's.
 fn by_value() {
-    let s = watching();
+    let s = watching(FLOATS);
     let time = best(|| {
         for _ in 0..CALLS {
             black_box(hand_back(black_box(s)));
@@ -121,9 +125,10 @@ pub fn calls() -> Times {
     let lock = lock();
     lock.report("a Lock", CALLS);
     by_value();
-    scan("a scan with no change", [0, 0], 0, 0);
-    scan("a scan that captures ten files of 250 bytes", [0, TRIGGERS], 10, 0);
-    scan("a scan that logs 32 alarms", [0, SLOT_POINTS], 0, 32);
-    scan("a scan that clears 16 alarms and raises 16", [CLEARING, SLOT_POINTS ^ CLEARING], 0, 32);
+    scan("a scan with no change", FLOATS, [0, 0], 0, 0);
+    scan("a scan that captures ten files of 250 bytes", FLOATS, [0, TRIGGERS], 10, 0);
+    scan("a scan that captures ten files of 30 texts of 8", TEXTS, [0, TRIGGERS], 10, 0);
+    scan("a scan that logs 32 alarms", FLOATS, [0, SLOT_POINTS], 0, 32);
+    scan("a scan that clears 16 alarms and raises 16", FLOATS, [CLEARING, SLOT_POINTS ^ CLEARING], 0, 32);
     lock
 }

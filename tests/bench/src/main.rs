@@ -4,6 +4,7 @@
 mod calls;
 mod expert;
 mod polls;
+mod texts;
 
 use std::hint::black_box;
 use std::io::Write;

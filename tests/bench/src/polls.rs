@@ -6,12 +6,12 @@
 use std::hint::black_box;
 
 use ::gateway::ffi::{self, State};
-use ::gateway::tables::Table;
 use model::frames::request;
 use reader::random::Random;
 
-use crate::calls::{watching, ARCHIVE, CALLS};
+use crate::calls::{watching, ARCHIVE, CALLS, FLOATS};
 use crate::expert::polls::poll as expert_poll;
+use crate::texts::half_clean_table;
 use crate::{best, Times};
 
 const UNIT: u8 = 1;
@@ -29,7 +29,7 @@ fn agree(s: State, archive: &mut [u8], table: &mut [u8], frame: &mut [u8], room:
 }
 
 fn times(mut s: State, frame: &mut [u8], room: usize, wanted: (u32, u32)) -> Times {
-    let (mut archive, Table(mut table)) = (Random::new(3).bytes(ARCHIVE), Table::patterned());
+    let (mut archive, mut table) = (Random::new(3).bytes(ARCHIVE), half_clean_table());
     agree(s, &mut archive, &mut table, frame, room, wanted);
     let mut reply = vec![0; room];
     let proved = best(|| {
@@ -49,7 +49,7 @@ fn times(mut s: State, frame: &mut [u8], room: usize, wanted: (u32, u32)) -> Tim
 
 /// A gateway whose file 10 has record 7 requested: nine files lie before it.
 fn requested() -> State {
-    let mut s = watching();
+    let mut s = watching(FLOATS);
     s.line.requested[9] = 7;
     s
 }
@@ -64,6 +64,7 @@ pub fn polls(lock: &Times) {
         ("a poll of 33 registers", request(UNIT, 3, 3701, 33), 71),
         ("a 06", request(UNIT, 6, 3730, 7), 8),
         ("a poll of 62 live floats", request(UNIT, 3, 7101, 62), 253),
+        ("a poll of 31 live texts of 8", request(UNIT, 3, 4001, 31), 253),
         ("a poll of 127 live Booleans from 1802", request(UNIT, 1, 1802, 127), 21),
     ];
     for (name, mut frame, length) in rows {

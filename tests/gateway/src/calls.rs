@@ -166,6 +166,11 @@ impl Call {
         Call::sending(request(unit, function, address, number))
     }
 
+    /// The same over this table.
+    pub fn asking_over(table: Table, unit: u8, function: u8, address: u16, number: u16) -> Call {
+        Call::Poll { table, frame: Frame(request(unit, function, address, number)), room: LEAST_REPLY }
+    }
+
     /// The call's place in NAMES.
     pub fn kind(&self) -> usize {
         match self {

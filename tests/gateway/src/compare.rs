@@ -52,14 +52,21 @@ pub fn wanted_of_state(s: &State, call: &Call, lent: &Lent) -> Wanted {
 pub fn agree(wanted: &Wanted, s: &State, call: &Call, lent: &Lent) -> Result<(), String> {
     let (mut handed_in, mut left) = (call.clone(), lent.clone());
     let got = handed_in.on_library(*s, &mut left);
-    if handed_in != *call {
-        return Err(format!("what is only read was changed, to {handed_in:?}"));
-    }
+    only_read(call, &handed_in)?;
     compare(wanted, &got, &left)?;
     if got.number != 0 && (got.state != *s || left != *lent) {
         return Err(format!("refused with {}, and yet the state or what was lent was changed, on both sides", got.number));
     }
     Ok(())
+}
+
+/// What a call was lent only to read, as the live table, is as it was.
+pub fn only_read(call: &Call, handed_in: &Call) -> Result<(), String> {
+    if handed_in == call {
+        Ok(())
+    } else {
+        Err(format!("what is only read was changed, to {handed_in:?}"))
+    }
 }
 
 /// The answer, the state and the bytes are those wanted; else what differs.

@@ -1,17 +1,21 @@
 //! A list of calls that the library and the model both go through, and the short lists of random calls.
 
+use std::rc::Rc;
+
 use gateway::ffi::{self, State};
+use gateway::memories::old_records;
 use gateway::states::{archive_length, damage, raw_of, remembered_of, standing, state_of, CLAUSES, ZEROS};
 use model::card::FOREIGN;
 use model::foreign::foreign;
 use model::layout::ALARM_FILE;
 use model::machine::Machine;
-use reader::random::Random;
+use reader::random::{stamp, Random};
+use reader::texts::live_table;
 
 use crate::calls::{wide, Call, FRESH, WIDE_UNIT};
-use crate::compare::{agree, compare, compare_answer, wanted_of_machine, wanted_of_state, Wanted};
+use crate::compare::{agree, compare, compare_answer, only_read, wanted_of_machine, wanted_of_state, Wanted};
 use crate::lent::{Buffer, Lent};
-use crate::origins::Origins;
+use crate::origins::{Origins, Scan, Stood};
 use crate::poll_sights::PollSight;
 use crate::sights::{Captured, History, Sight};
 use crate::tally::Tally;
@@ -81,8 +85,27 @@ impl List {
     /// A state that is not Foreign, over random bytes.
     pub fn standing(random: &mut Random, state: State) -> List {
         let archive = random.bytes(state.site.archive_length as usize);
+        List::over(archive, state, Stood::AnyBytes)
+    }
+
+    /// The same over records from before document 02, L5, which were captured of one scan.
+    pub fn over_old_records(random: &mut Random, state: State, scan: Scan) -> List {
+        let archive = old_records(random, &state, &scan.table, scan.stamp);
+        List::over(archive, state, Stood::OldRecords(Rc::new(scan)))
+    }
+
+    /// The same over random bytes or over old records of any scan.
+    pub fn any_standing(random: &mut Random, state: State) -> List {
+        if random.chance(2) {
+            return List::standing(random, state);
+        }
+        let scan = Scan { table: live_table(random), stamp: stamp(random) };
+        List::over_old_records(random, state, scan)
+    }
+
+    fn over(archive: Vec<u8>, state: State, stood: Stood) -> List {
         let machine = Machine::standing(&raw_of(&state), remembered_of(&state), &archive);
-        let origins = Origins::of_standing(&machine);
+        let origins = Origins::of_standing(&machine, stood);
         List { machine, state, archive, history: History::of_standing(), origins }
     }
 
@@ -118,7 +141,9 @@ impl List {
         let captures_before = self.captures();
         let mut lent = Lent { archive: std::mem::take(&mut self.archive), reply: Buffer::none() };
         let (told, length) = call.on_model(&mut self.machine, lent.archive.len(), &mut lent.reply);
-        let got = call.clone().on_library(self.state, &mut lent);
+        let mut handed_in = call.clone();
+        let got = handed_in.on_library(self.state, &mut lent);
+        only_read(call, &handed_in)?;
         self.archive = lent.archive;
         let after = state_of(&self.machine.raw_state(), self.machine.remembered(), &self.state);
         compare_answer(&told, length, &after, &got)?;
@@ -135,7 +160,7 @@ impl List {
             Call::Scan { table, stamp } => tally.scanned(&Sight::new(before, &table.0, *stamp, *captured, history)),
             Call::Poll { table, frame, room } => {
                 let (table, frame, reply) = (&table.0, &frame.0, wanted.reply());
-                tally.polls.polled(&PollSight { before, after: &wanted.state, table, frame, room: *room, reply, history });
+                tally.polled(&PollSight { before, after: &wanted.state, table, frame, room: *room, reply, history });
                 self.origins.read_back(&mut tally.polls.read_back, before, frame, reply)?;
             }
             _ => {}
@@ -203,14 +228,14 @@ fn any_fresh(random: &mut Random, tally: &mut Tally) -> Result<List, String> {
     List::fresh(random, tally, length, unit)
 }
 
-/// A list of random calls, after Fresh or on a state that is not Foreign over random bytes; between them damaged copies of the
-/// state are handed in.
+/// A list of random calls, after Fresh or on a state that is not Foreign over random bytes or old records; between them damaged
+/// copies of the state are handed in.
 pub fn short_list(random: &mut Random, tally: &mut Tally) -> Result<(), String> {
     let mut list = if random.chance(2) {
         any_fresh(random, tally)?
     } else {
         let state = standing(random);
-        List::standing(random, state)
+        List::any_standing(random, state)
     };
     for number in 1..=CALLS {
         if random.chance(3) {

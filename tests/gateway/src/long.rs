@@ -114,11 +114,11 @@ fn small_standing(random: &mut Random) -> State {
     }
 }
 
-/// A run after Fresh, or one in four on a state that is not Foreign over random bytes.
+/// A run after Fresh, or one in four on a state that is not Foreign over random bytes or old records.
 pub fn long_run(random: &mut Random, tally: &mut Tally) -> Result<(), String> {
     let (mut list, mut ahead) = if random.chance(4) {
         let state = small_standing(random);
-        (List::standing(random, state), Vec::new())
+        (List::any_standing(random, state), Vec::new())
     } else {
         let archive = LEAST_ARCHIVE + random.below(MOST_FOR_FILES + 1) as usize;
         let unit = 1 + random.below(247) as u32;

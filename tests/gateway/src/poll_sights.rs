@@ -3,13 +3,16 @@
 
 use gateway::ffi::State;
 use gateway::live::Run;
-use gateway::rows::{is_read_reply, limit_of, Asked, Request, Row};
+use gateway::rows::{groups_of, is_read_reply, limit_of, Asked, Request, Row};
 use model::crc;
 use model::frames::{ILLEGAL_ADDRESS, ILLEGAL_FUNCTION, ILLEGAL_VALUE, READ, READ_BOOLEANS, WRITE};
+use model::layout::ALARM_FILE;
 use model::machine::{FIRST_REGISTER, LAST_REGISTER, LEAST_REPLY};
+use reader::old_records::{text_groups, TextGroup};
 
 use crate::scans::booleans;
 use crate::sights::History;
+use crate::text_sights::has_unclean;
 
 /// The addresses on either side of each row.
 const BESIDE_ROWS: [u16; 10] = [700, 712, 720, 732, 750, 762, 770, 782, FIRST_REGISTER - 1, LAST_REGISTER + 1];
@@ -137,6 +140,15 @@ impl PollSight<'_> {
         is_read_reply(self.reply) && is_such(self.data())
     }
 
+    /// Whether a record of the reply has a text with a byte that no capture leaves.
+    fn has_an_old_text(&self) -> bool {
+        self.is_record(|asked| {
+            let has_groups = asked.file != ALARM_FILE && !asked.is_stamp;
+            let is_old = |group: TextGroup| has_unclean(&self.data()[group.in_record]);
+            has_groups && text_groups(groups_of(self.before, asked.file)).into_iter().any(is_old)
+        })
+    }
+
     fn was_requested(&self) -> bool {
         matches!(self.row(), Some(Row::RecordRequested | Row::StampRequested))
     }
@@ -205,7 +217,7 @@ pub const EXCEPTIONS: [Shown; 28] = [
 ];
 
 /// Replies that carry what was asked for.
-pub const REPLIES: [Shown; 28] = [
+pub const REPLIES: [Shown; 29] = [
     ("33 registers", |p| p.is_on(&REGISTERS, |quantity, _| quantity == 33) && is_read_reply(p.reply)),
     ("the last register alone", |p| p.address_is(|a| a == LAST_REGISTER) && p.is_data(|data| data.len() == 2)),
     ("an echo of a 06", |p| p.reply == p.frame && p.sets_a_number()),
@@ -214,6 +226,7 @@ pub const REPLIES: [Shown; 28] = [
     ("an alarm record", |p| p.is_record(|asked| asked.file == 11 && !asked.is_stamp)),
     ("a record of zeros", |p| p.record().is_some() && p.is_data(|data| data.iter().all(|&byte| byte == 0))),
     ("a record that stood before the list", |p| p.history.stands() && p.record().is_some()),
+    ("a record with a text that is not clean", |p| p.has_an_old_text()),
     ("the newest record of a file gone round", |p| p.has_gone_round(|k, pointer| k == pointer)),
     ("the oldest record of a file gone round", |p| p.has_gone_round(|k, pointer| k == pointer + 1)),
     ("record 1 of a file gone round", |p| p.has_gone_round(|k, pointer| k == 1 && pointer > 1)),

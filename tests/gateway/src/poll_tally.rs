@@ -2,7 +2,7 @@
 
 use gateway::rows::Request;
 use model::layout::ALARM_FILE;
-use reader::read_back::KINDS;
+use reader::read_back::{Points, KINDS};
 
 use crate::live_sights::LiveTally;
 use crate::origins::ReadBack;
@@ -10,10 +10,11 @@ use crate::poll_sights::{PollSight, Shown, EXCEPTIONS, REPLIES, UNANSWERED};
 use crate::refused_sights::{Refused, REFUSED};
 
 /// How often each is to be seen, how many replies each file is to give on each row, and how many records and stamps are to be
-/// decoded.
+/// decoded, and records from before document 02, L5, with their texts.
 const OFTEN_ENOUGH: usize = 20;
 const REPLIES_A_FILE: usize = 20;
 const READ_BACK: usize = 5_000;
+const OLD_READ_BACK: usize = 100;
 
 /// The rows of the address table, by their numbers as a `Row`.
 const ROWS: [&str; 6] = ["record requested", "record numbered", "stamp requested", "stamp numbered", "registers", "06"];
@@ -74,11 +75,19 @@ impl PollTally {
         seen.extend(self.live.seen());
         seen.extend(named("refused: ", &REFUSED, &self.refused));
         let counted = |name: &str, n, least| (name.to_string(), n, least);
-        let ReadBack { records, stamps, empty, leap_days, kinds } = &self.read_back;
+        let ReadBack { records, stamps, empty, old_records, leap_days, points } = &self.read_back;
         seen.push(counted("polled records read back by the reading end", *records, READ_BACK));
         seen.push(counted("polled stamps read back by the reading end", *stamps, READ_BACK));
         seen.push(counted("polled records that the reading end called empty", *empty, OFTEN_ENOUGH));
+        seen.push(counted("polled records from before L5 read back by the reading end", *old_records, OLD_READ_BACK));
         seen.push(counted("29 February polled and read back", *leap_days, OFTEN_ENOUGH));
+        let Points { kinds, cleaned, not_cleaned } = points;
+        seen.push(counted("text that was cleaned polled and read back", *cleaned as usize, READ_BACK));
+        seen.push(counted(
+            "text of an old record that is not clean polled and read back",
+            *not_cleaned as usize,
+            OLD_READ_BACK,
+        ));
         let points =
             (1..KINDS.len()).map(|kind| (format!("{} polled and read back", KINDS[kind]), kinds[kind] as usize, READ_BACK));
         seen.extend(points);

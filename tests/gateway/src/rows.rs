@@ -99,6 +99,11 @@ pub fn limit_of(s: &State, file: usize) -> u16 {
     }
 }
 
+/// The laid-out groups of file 1 to 10.
+pub fn groups_of(s: &State, file: usize) -> &[u16; 32] {
+    s.files.layout.groups[32 * (file - 1)..].first_chunk().expect("32 numbers a file")
+}
+
 /// Whether a reply to one of our polls carries data: an exception has 5 bytes, an echo function 06.
 pub fn is_read_reply(reply: &[u8]) -> bool {
     reply.len() > 5 && [1, 3].contains(&reply[1])

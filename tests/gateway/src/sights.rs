@@ -1,7 +1,9 @@
 //! What accepted scans were seen to do, counted, so that a run shows that nothing which a scan can meet was left out.
 
 use gateway::ffi::{Slot, State};
+use gateway::rows::groups_of;
 use model::layout::{ALARM_FILE, ALARM_RECORDS, USER_FILES};
+use model::points::pairs;
 use model::record::Stamp;
 use reader::dates::is_leap_day;
 
@@ -94,9 +96,10 @@ fn goes_round(before: &State, captured: &Captured, file: usize) -> bool {
     n > 1 && usize::from(before.files.pointers[file]) + captured[file] > usize::from(n)
 }
 
-/// An accepted scan: the state that it was given, its Booleans and stamp, and what the model captured.
+/// An accepted scan: the state that it was given, its live table, Booleans and stamp, and what the model captured.
 pub struct Sight<'a> {
     before: &'a State,
+    pub table: &'a [u8],
     now: u128,
     stamp: Stamp,
     captured: Captured,
@@ -104,8 +107,8 @@ pub struct Sight<'a> {
 }
 
 impl<'a> Sight<'a> {
-    pub fn new(before: &'a State, table: &[u8], stamp: Stamp, captured: Captured, history: &'a History) -> Sight<'a> {
-        Sight { before, now: booleans(table), stamp, captured, history }
+    pub fn new(before: &'a State, table: &'a [u8], stamp: Stamp, captured: Captured, history: &'a History) -> Sight<'a> {
+        Sight { before, table, now: booleans(table), stamp, captured, history }
     }
 
     /// The points that went from 0 to 1, and from 1 to 0; before a first scan nothing was on or off.
@@ -138,7 +141,13 @@ impl<'a> Sight<'a> {
     }
 
     fn is_bare(&self, file: usize) -> bool {
-        self.before.files.layout.groups[32 * file..32 * file + 32] == [0; 32]
+        *groups_of(self.before, file + 1) == [0; 32]
+    }
+
+    /// The first point and the number of points of each group, unused ones too, of the files that captured.
+    pub fn captured_groups(&self) -> impl Iterator<Item = (u16, u16)> + '_ {
+        let files = (0..USER_FILES).filter(|&file| self.captured[file] > 0);
+        files.flat_map(|file| pairs(groups_of(self.before, file + 1)))
     }
 
     fn clock_went_back(&self) -> bool {

@@ -5,6 +5,7 @@ use std::fmt;
 use model::machine::BOOLEAN_BYTES;
 use model::points::TABLE_BYTES;
 use reader::random::Random;
+use reader::texts::live_table;
 
 /// A live table as it is lent, of any length.
 #[derive(Clone, PartialEq, Eq)]
@@ -37,10 +38,12 @@ const PATTERN: [u8; TABLE_BYTES] = {
 };
 
 impl Table {
-    /// Random bytes, now and then too many or too few.
+    /// Random bytes with texts of every sort, now and then too many bytes or too few.
     pub fn random(random: &mut Random) -> Table {
-        let length = any_length(random);
-        Table(random.bytes(length))
+        match any_length(random) {
+            TABLE_BYTES => Table(live_table(random)),
+            other => Table(random.bytes(other)),
+        }
     }
 
     /// A live table that tells places apart.

@@ -8,9 +8,11 @@ use crate::alarm_sights::AlarmTally;
 use crate::calls::{Call, NAMES, WIDE};
 use crate::compare::Wanted;
 use crate::lent::Lent;
+use crate::poll_sights::PollSight;
 use crate::poll_tally::PollTally;
 use crate::refused_sights::Refused;
 use crate::sights::{Sight, SIGHTS};
+use crate::text_sights::{TextTally, Way};
 
 /// The numbers that each call of NAMES is to answer.
 const NUMBERS: [&[usize]; NAMES.len()] = [
@@ -50,10 +52,12 @@ pub struct Tally {
     /// How often the file that went round most in one list did so.
     pub most_rounds: usize,
     pub alarms: AlarmTally,
+    pub texts: TextTally,
     pub polls: PollTally,
-    /// The polls and the scans with alarms that were made one after the other, which are in no other count.
+    /// The polls, the scans with alarms and the texts that were tried one after the other, which are in no other count.
     pub polls_in_turn: usize,
     pub alarm_scans_in_turn: usize,
+    pub texts_in_turn: usize,
 }
 
 impl Tally {
@@ -87,6 +91,22 @@ impl Tally {
             *seen += how_often(sight);
         }
         self.alarms.logged(&sight.alarms());
+        for (first, points) in sight.captured_groups() {
+            self.texts.read(Way::Captured, sight.table, first, points);
+        }
+    }
+
+    /// A poll that was not refused.
+    pub fn polled(&mut self, sight: &PollSight) {
+        self.polls.polled(sight);
+        if let Some(run) = sight.run().filter(|_| sight.is_live_reply()) {
+            self.texts.read(Way::Polled, sight.table, run.first, run.quantity);
+        }
+    }
+
+    /// What the alarms, the texts and the polls have shown.
+    fn shown(&self) -> impl Iterator<Item = (String, usize, usize)> {
+        self.alarms.seen().into_iter().chain(self.texts.seen()).chain(self.polls.seen())
     }
 
     /// What was hardly seen, of all that a whole run should see.
@@ -114,8 +134,7 @@ impl Tally {
         if self.most_rounds < MANY_ROUNDS {
             seldom.push("a file that goes round many times".to_string());
         }
-        let shown = self.alarms.seen().into_iter().chain(self.polls.seen());
-        seldom.extend(shown.filter(|(_, n, least)| n < least).map(|(name, ..)| name));
+        seldom.extend(self.shown().filter(|(_, n, least)| n < least).map(|(name, ..)| name));
         seldom
     }
 
@@ -138,7 +157,7 @@ impl Tally {
             println!("{name}: {seen}");
         }
         println!("one file went round {} times in one list", self.most_rounds);
-        for (name, n, _) in self.alarms.seen().into_iter().chain(self.polls.seen()) {
+        for (name, n, _) in self.shown() {
             println!("{name}: {n}");
         }
     }

@@ -16,3 +16,4 @@ pub mod points;
 pub mod published;
 pub mod reader;
 pub mod record;
+pub mod texts;

@@ -1,5 +1,7 @@
 //! Document 01, "Live table", and the groups of "Records".
 
+use std::ops::Range;
+
 use crate::card::{Refusal, GROUP, LONG};
 
 /// The length of the live table.
@@ -22,6 +24,13 @@ pub enum Kind {
     Int32,
     Float,
     Text16,
+}
+
+impl Kind {
+    /// Whether it is one of the two text kinds.
+    pub fn is_text(self) -> bool {
+        matches!(self, Kind::Text8 | Kind::Text16)
+    }
 }
 
 /// One row of the live table. A Boolean takes one bit, any other point
@@ -56,6 +65,16 @@ pub static ROWS: [Row; 6] = [
 ];
 
 impl Row {
+    /// How many points the row has.
+    pub fn points(&self) -> u16 {
+        self.last + 1 - self.first
+    }
+
+    /// The row's bytes in the table.
+    pub fn in_table(&self) -> Range<usize> {
+        self.from_byte..self.from_byte + self.bytes_of(self.points())
+    }
+
     /// Where a point of this row (not a Boolean one) starts in the table.
     pub fn place_in_table(&self, point: u16) -> usize {
         self.from_byte + usize::from(point - self.first) * self.point_bits / 8
@@ -175,8 +194,8 @@ mod tests {
     fn the_rows_fill_the_table_without_gaps() {
         let mut next = 0;
         for row in &ROWS {
-            assert_eq!(row.from_byte, next);
-            next += row.bytes_of(row.last - row.first + 1);
+            assert_eq!(row.in_table().start, next);
+            next = row.in_table().end;
         }
         assert_eq!(next, TABLE_BYTES);
     }
@@ -234,7 +253,7 @@ mod tests {
     #[test]
     fn whole_rows_are_good() {
         for row in &ROWS {
-            let all = row.last - row.first + 1;
+            let all = row.points();
             assert_eq!(group_of(row.first, all), Group::Good(row));
             assert_eq!(group_of(row.first, all + 1), Group::Bad);
         }

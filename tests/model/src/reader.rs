@@ -299,6 +299,23 @@ mod tests {
         }
     }
 
+    /// Document 02, L5, is about captures: a record from before it, or another
+    /// gateway's, may hold any bytes, and is taken as it stands.
+    #[test]
+    fn texts_are_read_as_they_stand() {
+        let groups = groups_from_first_place(&[(4001, 2), (3001, 1), (14001, 2)]);
+        for first in 0..=255u8 {
+            let bytes: [u8; 50] = std::array::from_fn(|i| first.wrapping_add(i as u8));
+            let frame = reply(&[&AUGUST.bytes(false)[..], &bytes].concat());
+            let read = |g, e| match value(&groups, false, &frame, g, e) {
+                Ok(Value::Text { place, len }) => &frame[place..place + len],
+                other => panic!("text {g}, {e}: {other:?}"),
+            };
+            assert_eq!([read(1, 1), read(1, 2)], [&bytes[..8], &bytes[8..16]]);
+            assert_eq!([read(3, 1), read(3, 2)], [&bytes[18..34], &bytes[34..]]);
+        }
+    }
+
     /// Demand 2's blunder: Empty told of a filled record.
     #[test]
     fn a_stamp_over_zeros_is_a_filled_record() {

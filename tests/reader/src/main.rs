@@ -1,5 +1,6 @@
 //! Every call of libreader.a against the model's reading end, and every decoded point against the live table, on random definitions,
-//! right replies and faulty ones; and its CRC against the model's, on random bytes.
+//! right replies and faulty ones; and its CRC against the model's, on random bytes. Every other record is one from before document
+//! 02, L5, with its texts as they stood in the table.
 //!
 //!     reader [SEED [ROUNDS]]
 //!
@@ -16,9 +17,11 @@ use model::frames::read_reply;
 use model::points::judge_definition;
 use model::record::captured_record;
 use reader::dates::is_leap_day;
+use reader::old_records::old_record;
 use reader::random::{groups, stamp, Random};
-use reader::read_back::{read_back, Given};
+use reader::read_back::{read_back, Given, Texts};
 use reader::seeds::{argument, spread, SEED};
+use reader::texts::live_table;
 
 use compare::{agree, crcs_agree};
 use faults::{other_length, FAULTS};
@@ -31,13 +34,19 @@ const USAGE: &str = "reader [SEED [ROUNDS]]";
 fn round(random: &mut Random, tally: &mut Tally) -> Result<(), String> {
     let numbers = groups(random);
     let is_good = judge_definition(&numbers).is_ok();
-    let (day_first, table, stamp) = (random.chance(2), random.bytes(1424), stamp(random));
-    let record = if is_good { captured_record(&numbers, &table, stamp, day_first) } else { random.bytes(30) };
+    let (day_first, table, stamp) = (random.chance(2), live_table(random), stamp(random));
+    let texts = if random.chance(2) { Texts::Clean } else { Texts::AsTheyStood };
+    let record = match texts {
+        _ if !is_good => random.bytes(30),
+        Texts::Clean => captured_record(&numbers, &table, stamp, day_first),
+        Texts::AsTheyStood => old_record(&numbers, &table, stamp, day_first),
+    };
     let frame = read_reply(1 + random.below(247) as u8, &record);
     let right = Given { groups: &numbers, day_first, frame: &frame };
     agree(random, tally, &right).map_err(|text| format!("{text}\n{right:?}"))?;
     if is_good {
-        read_back(&mut tally.kinds, &right, &table, stamp.into()).map_err(|text| format!("{text}\n{right:?}"))?;
+        let seen = &mut tally.points_read_back;
+        read_back(seen, &right, &table, texts, stamp.into()).map_err(|text| format!("{text}\n{right:?}"))?;
         tally.leap_days += u32::from(is_leap_day(&stamp));
     }
     let index = random.below(FAULTS.len() as u64) as usize;

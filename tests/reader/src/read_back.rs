@@ -4,6 +4,7 @@ use std::fmt::Debug;
 
 use model::points::{row_of_point, Kind};
 use model::record::boolean;
+use model::texts::{captured_text_byte, is_clean};
 
 use crate::ffi::{self, Stamp, StampAnswer};
 
@@ -15,10 +16,36 @@ pub struct Given<'a> {
     pub frame: &'a [u8],
 }
 
+/// How a record has the texts of the live table: clean since document 02, L5, and before it as they stood.
+#[derive(Clone, Copy)]
+pub enum Texts {
+    Clean,
+    AsTheyStood,
+}
+
+impl Texts {
+    /// The text that a record has of one that stood so in the table.
+    fn of(self, stood: &[u8]) -> Vec<u8> {
+        match self {
+            Texts::Clean => stood.iter().map(|&byte| captured_text_byte(byte)).collect(),
+            Texts::AsTheyStood => stood.to_vec(),
+        }
+    }
+}
+
 /// The kinds of point by their numbers in C.
 pub const KINDS: [&str; 6] = ["none", "flag", "16-bit", "32-bit", "float", "text"];
-/// How often a point of each kind was read back.
-pub type Kinds = [u32; KINDS.len()];
+
+/// How many points were read back.
+#[derive(Default)]
+pub struct Points {
+    /// Of each kind.
+    pub kinds: [u32; KINDS.len()],
+    /// Texts that are not as the table had them.
+    pub cleaned: u32,
+    /// Texts as the table had them, with bytes that are not clean.
+    pub not_cleaned: u32,
+}
 
 pub fn same<T: Debug + PartialEq>(call: &str, wanted: T, got: T) -> Result<(), String> {
     if got == wanted {
@@ -44,17 +71,27 @@ fn in_table(table: &[u8], point: u16) -> (u32, u32, &[u8]) {
     }
 }
 
+impl Points {
+    fn count(&mut self, kind: u32, text: &[u8], stood: &[u8]) {
+        self.kinds[kind as usize] += 1;
+        self.cleaned += u32::from(text != stood);
+        self.not_cleaned += u32::from(!text.iter().all(|&byte| is_clean(byte)));
+    }
+}
+
 /// Every point of the reply is the live table's, of which the record was captured, and the stamp is the capture's.
-pub fn read_back(kinds: &mut Kinds, given: &Given, table: &[u8], stamp: Stamp) -> Result<(), String> {
+pub fn read_back(seen: &mut Points, given: &Given, table: &[u8], texts: Texts, stamp: Stamp) -> Result<(), String> {
     let Given { groups, day_first, frame } = *given;
     same("stamp of a capture", StampAnswer { number: 0, carried: 0, stamp }, ffi::stamp(groups, day_first, frame))?;
     for (g, pair) in (1..).zip(groups.chunks_exact(2)) {
         for e in 1..=u32::from(pair[1]) {
             let got = ffi::point(groups, day_first, frame, g, e);
-            let text = &frame[got.place as usize..][..got.length as usize];
-            let wanted = in_table(table, pair[0] + e as u16 - 1);
-            same(&format!("point {g}, {e} of a capture"), (0, wanted), (got.number, (got.kind, got.bits, text)))?;
-            kinds[got.kind as usize] += 1;
+            let read = &frame[got.place as usize..][..got.length as usize];
+            let (kind, bits, stood) = in_table(table, pair[0] + e as u16 - 1);
+            let text = texts.of(stood);
+            let wanted = (0, (kind, bits, text.as_slice()));
+            same(&format!("point {g}, {e} of a capture"), wanted, (got.number, (got.kind, got.bits, read)))?;
+            seen.count(kind, &text, stood);
         }
     }
     Ok(())

@@ -1,6 +1,6 @@
 //! What a run has seen, and what it should have.
 
-use reader::read_back::{Kinds, KINDS};
+use reader::read_back::{Points, KINDS};
 
 use crate::faults::FAULTS;
 
@@ -16,8 +16,8 @@ pub struct Tally {
     pub records: [u32; 17],
     pub stretches: [u32; 17],
     pub points: [u32; 17],
-    /// How often a point of each kind was read back from a capture.
-    pub kinds: Kinds,
+    /// The points that were read back from a capture.
+    pub points_read_back: Points,
     /// How often such a capture was of 29 February.
     pub leap_days: u32,
     /// How often each fault was told by its number.
@@ -36,7 +36,10 @@ impl Tally {
         seen.extend(OF_RECORDS.map(|number| (format!("record answering {number}"), self.records[number])));
         seen.extend(OF_POINTS.map(|number| (format!("stretch answering {number}"), self.stretches[number])));
         seen.extend(OF_POINTS.map(|number| (format!("point answering {number}"), self.points[number])));
-        seen.extend((1..KINDS.len()).map(|kind| (format!("{} read back", KINDS[kind]), self.kinds[kind])));
+        let Points { kinds, cleaned, not_cleaned } = &self.points_read_back;
+        seen.extend((1..KINDS.len()).map(|kind| (format!("{} read back", KINDS[kind]), kinds[kind])));
+        seen.push(("text that was cleaned read back".to_string(), *cleaned));
+        seen.push(("text of an old record that is not clean read back".to_string(), *not_cleaned));
         seen.push(("29 February read back".to_string(), self.leap_days));
         seen.extend(FAULTS.iter().zip(self.faults).map(|(fault, n)| (format!("{}, told by {}", fault.name, fault.number), n)));
         seen.push(("a list of more than 32 numbers".to_string(), self.long_lists));

@@ -6,11 +6,14 @@ use ::gateway::states::{damage, definitions_of, standing, CLAUSES};
 use ::gateway::tables::Table;
 use model::frames::read_reply;
 use model::layout::{file_start, ALARM_FILE, ALARM_RECORDS, ALARM_RECORD_BYTES};
+use model::points::{row_of_point, STAMP_BYTES};
 use model::record::{captured_record, every_date, Stamp, AUGUST};
 use reader::random::{groups, stamp, Random};
+use reader::texts::live_table;
 
 use super::records::in_range;
 use super::{gateway, polls, reader as plain_reader};
+use crate::calls::{watching, ARCHIVE};
 
 const ROUNDS: usize = 2_000;
 
@@ -47,8 +50,8 @@ fn lock_and_scan_are_the_librarys() {
         let wanted = ffi::lock(s, &mut archive);
         assert_eq!((number, locked), (wanted.number, wanted.state));
 
-        let length = if random.chance(20) { 1423 } else { 1424 };
-        let mut table = random.bytes(length);
+        let mut table = live_table(&mut random);
+        table.truncate(if random.chance(20) { 1423 } else { 1424 });
         let mut at = stamp(&mut random);
         at.month += u8::from(random.chance(20)) * 12;
         let wanted = scan_both(s, &mut archive, &mut table, at);
@@ -74,11 +77,35 @@ fn alarms_are_the_librarys() {
         let mut s = standing(&mut random);
         (s.flags.running, s.flags.unlocked, s.seen.scanned) = (true, false, true);
         let mut archive = random.bytes(s.site.archive_length as usize);
-        let wanted = scan_both(s, &mut archive, &mut random.bytes(1424), AUGUST);
+        let wanted = scan_both(s, &mut archive, &mut live_table(&mut random), AUGUST);
         let bits = first_and_last_bit(&s, &wanted.state, &archive);
         cleared_and_raised += usize::from(bits == Some([0, 1]));
     }
     assert!(cleared_and_raised > ROUNDS / 2, "{cleared_and_raised} scans that cleared and raised alarms");
+}
+
+/// A random run of texts in one of their rows, of up to 240 bytes.
+fn any_texts(random: &mut Random) -> (u16, u16) {
+    let (first, texts, most) = if random.chance(2) { (4001, 32, 30) } else { (14001, 16, 15) };
+    let skipped = random.below(texts);
+    (first + skipped as u16, 1 + random.below((texts - skipped).min(most)) as u16)
+}
+
+/// All triggers of `watching` rise. Most runs have texts that are cleaned.
+#[test]
+fn texts_are_the_librarys() {
+    let mut random = Random::new(5);
+    let mut cleaned = 0;
+    for _ in 0..ROUNDS {
+        let (first, points) = any_texts(&mut random);
+        let (mut archive, mut table) = (random.bytes(ARCHIVE), live_table(&mut random));
+        table[..2].fill(0xFF);
+        scan_both(watching((first, points)), &mut archive, &mut table, AUGUST);
+        let row = row_of_point(first).unwrap();
+        let stood = &table[row.place_in_table(first)..][..row.bytes_of(points)];
+        cleaned += usize::from(archive[STAMP_BYTES..][..stood.len()] != *stood);
+    }
+    assert!(cleaned > ROUNDS / 2, "{cleaned} captures that were cleaned");
 }
 
 /// Each state is polled with frames of every kind, and goes on with what an answered one left.

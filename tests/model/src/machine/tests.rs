@@ -1,6 +1,6 @@
 //! The marked cases (*) and known blunders of document 01 that are about
-//! the machine, and the rules of each call; live points of document 02, L3, and
-//! the order of alarms, L4.
+//! the machine, and the rules of each call; live points of document 02, L3, the
+//! order of alarms, L4, and clean text, L5.
 
 use super::*;
 use crate::alarm_orders::table_with;
@@ -18,6 +18,7 @@ mod rows;
 mod scans;
 mod settings;
 mod standing;
+mod texts;
 
 const UNIT: u8 = 17;
 const ARCHIVE: usize = 20_000;
@@ -57,6 +58,19 @@ fn running_with_file_1(n: u16) -> Machine {
 
 fn scan(machine: &mut Machine, on: &[u16], second: u8) {
     done(machine.scan(ARCHIVE, &table_with(on), at_second(second)));
+}
+
+/// The record that a machine captures from a table, FLAG being on in it, by
+/// these groups.
+fn captured_from(table: &[u8], groups: &[(u16, u16)]) -> Vec<u8> {
+    let mut machine = fresh();
+    done(machine.unlock(ARCHIVE));
+    done(machine.define(ARCHIVE, 1, &groups_from_first_place(groups), 1));
+    done(machine.trigger(ARCHIVE, 1, FLAG.into()));
+    done(machine.start(ARCHIVE));
+    scan(&mut machine, &[], 1);
+    done(machine.scan(ARCHIVE, table, AUGUST));
+    machine.record(1, 1)
 }
 
 /// So many captures of file 1, stamped with seconds 1, 2, and so on.

@@ -2,6 +2,7 @@
 
 use super::*;
 use crate::frames::{data_reply, ILLEGAL_ADDRESS, ILLEGAL_FUNCTION, ILLEGAL_VALUE};
+use crate::texts::captured_by_list;
 
 /// The rows: the function that reads one, its first and last point, the bits
 /// of a point and the byte at which it starts.
@@ -66,13 +67,13 @@ fn booleans_are_packed_from_the_first_one_asked() {
     }
 }
 
-/// The last points of the other rows: -5, a text that is no text, 70,000, a
-/// float that is no number, and a text of 16.
+/// The last points of the other rows: -5, a text, 70,000, a float that is no
+/// number, and a text of 16.
 #[test]
 fn other_points_stand_as_in_the_table() {
     let lines: [(u16, usize, &[u8]); 5] = [
         (3064, 142, &[0xFF, 0xFB]),
-        (4032, 392, b"Row\x00\x7F\xFF\x80\x01"),
+        (4032, 392, b"Row 32\x00\x00"),
         (5164, 652, &[0x00, 0x01, 0x11, 0x70]),
         (7228, 1164, &[0x7F, 0xA0, 0x00, 0x02]),
         (14016, 1408, b"Windrow sixteen."),
@@ -84,7 +85,7 @@ fn other_points_stand_as_in_the_table() {
 }
 
 /// What is wanted of every start and quantity, worked out from the table as
-/// one number (Booleans) or as plain bytes.
+/// one number (Booleans), as plain bytes, or as texts by L5's list.
 fn wanted(table: &[u8], row: usize, first: u16, quantity: u16) -> Vec<u8> {
     let (function, row_first, last, bits, from_byte) = ROWS[row];
     let count = usize::from(quantity);
@@ -98,7 +99,12 @@ fn wanted(table: &[u8], row: usize, first: u16, quantity: u16) -> Vec<u8> {
     let before = usize::from(first - row_first);
     if bits > 1 {
         let from = from_byte + before * bits / 8;
-        return read_reply(&table[from..from + length]);
+        let bytes = &table[from..from + length];
+        return if bits < 64 {
+            read_reply(bytes)
+        } else {
+            read_reply(&captured_by_list(bytes))
+        };
     }
     let booleans = u128::from_le_bytes(table[..16].try_into().unwrap());
     let run = booleans >> before & u128::MAX >> (128 - count);
@@ -260,25 +266,12 @@ fn records_are_polled_as_before_whatever_the_table_has() {
     }
 }
 
-/// The record that a machine captures from a table, FLAG being on in it, by
-/// this one group.
-fn captured(table: &[u8], group: (u16, u16)) -> Vec<u8> {
-    let mut machine = fresh();
-    done(machine.unlock(ARCHIVE));
-    done(machine.define(ARCHIVE, 1, &groups_from_first_place(&[group]), 1));
-    done(machine.trigger(ARCHIVE, 1, FLAG.into()));
-    done(machine.start(ARCHIVE));
-    scan(&mut machine, &[], 1);
-    done(machine.scan(ARCHIVE, table, AUGUST));
-    machine.record(1, 1)
-}
-
 #[test]
 fn a_run_has_the_bytes_of_a_captured_group() {
     let table = patterned();
     for (function, first, last, ..) in ROWS {
         for (start, quantity) in [(first, 1), (first + 3, 9), (last - 4, 5), (last, 1)] {
-            let group = &captured(&table, (start, quantity))[6..];
+            let group = &captured_from(&table, &[(start, quantity)])[6..];
             let reply = told(&table, function, start, quantity);
             assert_eq!(reply, data_reply(UNIT, function, group), "{start}");
         }

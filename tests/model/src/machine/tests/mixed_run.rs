@@ -27,10 +27,12 @@ fn some_groups(mixer: &mut Mixer) -> [u16; 32] {
         (7101, 3),
         (7228, 2),
         (7101, 61),
+        (4030, 3),
+        (14001, 2),
     ];
     let mut used = [(0, 0); 3];
     for group in &mut used {
-        *group = choices[mixer.below(6) as usize];
+        *group = choices[mixer.below(8) as usize];
     }
     groups_from_first_place(&used)
 }
