@@ -18,9 +18,10 @@ static const char help[] =
     "\n"
     "STORE is the file that windrow-gateway keeps with --store; STATE and ARCHIVE are the bytes of a struct windrow_state\n"
     "and of the archive memory that firmware has saved. Written are flags and settings, for each file its definition,\n"
-    "n, pointer, oldest and newest stamp, and its records as CSV, oldest first, as they lie in the archive: what is no\n"
-    "printable ASCII in a text, as gateways before 2.2 captured it, is \\xHH. A record whose date or time does not exist is\n"
-    "told and left out, a Foreign state told by the clauses that it breaks; the status is then 1.\n"
+    "n, pointer, oldest and newest stamp, and its records as CSV, oldest first, as they lie in the archive. A text is\n"
+    "without the zeros at its end, and a backslash and what is no printable ASCII are \\xHH; of the latter gateways since\n"
+    "2.2 capture none but 00. A record whose date or time does not exist is told and left out, a Foreign state told by the\n"
+    "clauses that it breaks; the status is then 1.\n"
     "\n"
     "  --file F      only the records of file F, 1-11, as CSV\n"
     "  --help        this page\n";

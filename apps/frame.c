@@ -26,6 +26,7 @@ static const char help[] =
     "                    byte, the last ones may not have been asked for\n"
     "  --help            this page\n"
     "\n"
+    "Texts are shown as they come, but without the zeros at the end, and a backslash and what is no printable ASCII as \\xHH.\n"
     "The status is 0 for a frame that is understood, 1 for one that is damaged or refused.\n"
     "\n";
 

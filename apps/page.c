@@ -21,7 +21,8 @@ static const char help[] =
     "The CSV files are those that windrow-read wrote, each with its heading, by which the columns are found:\n"
     "  NORTH.csv         stamp, 7101 (core), 7102 (edge), 7105 (air)\n"
     "  SOUTH.csv         stamp, 7103 (core), 7104 (edge), 7105 (air)\n"
-    "  NORTH_TURNS.csv   stamp of each turning; 14001, if there, says why, and 14003 who turned\n"
+    "  NORTH_TURNS.csv   stamp of each turning; 14001, if there, says why, and 14003 who turned. The first eight texts\n"
+    "                    of each are counted one by one, as they were filed, and the others together\n"
     "  SOUTH_TURNS.csv   the same; 14002 and 14004\n"
     "  ALARMS.csv        stamp, point, type, bit: 1805 and 1806 too hot, 1807 and 1808 short of air, north and south. Only\n"
     "                    types 0 and 2 tell when an alarm was cleared, and so only they are taken. Of the last five scans\n"
@@ -64,7 +65,7 @@ struct sum {
 };
 
 #define LAST_WEEK (7 * 86400)
-#define MOST_TEXTS 8
+#define MOST_TEXTS 8 /* that are counted one by one */
 #define MOST_SCANS 5 /* whose alarms are listed, lest the page grows with the season */
 
 /* What a windrow's records of turnings say in a text, why or by whom, and how often each. */
@@ -72,6 +73,7 @@ struct tally {
     char texts[MOST_TEXTS][CELL_BYTES];
     size_t counts[MOST_TEXTS];
     size_t count;
+    size_t others; /* turnings with another text than these */
 };
 
 /* A record of the alarm file. */
@@ -201,8 +203,10 @@ static void count_text(struct tally *tally, const char *cell)
             return;
         }
     }
-    if (tally->count == MOST_TEXTS)
+    if (tally->count == MOST_TEXTS) {
+        tally->others++;
         return;
+    }
     strcpy(tally->texts[tally->count], text);
     tally->counts[tally->count++] = 1;
 }
@@ -353,12 +357,27 @@ static void write_tallies(FILE *page, const char *name, const struct tally talli
         fputs("<td>", page);
         for (size_t j = 0; j < tally->count; j++) {
             fputs(j > 0 ? "<br>" : "", page);
-            write_text(page, tally->texts[j]);
+            if (tally->texts[j][0] == 0)
+                fputs("<i>none given</i>", page); /* slanted, lest it passes for a text that was filed */
+            else
+                write_text(page, tally->texts[j]);
             fprintf(page, ": %zu", tally->counts[j]);
         }
+        if (tally->others > 0)
+            fprintf(page, "<br><i>others</i>: %zu", tally->others);
         fputs(tally->count == 0 ? "–</td>" : "</td>", page);
     }
     fputs("</tr>\n", page);
+}
+
+/* Whether one of the texts that are shown has a byte as \xHH. */
+static bool has_escapes(const struct tally tallies[WINDROWS])
+{
+    for (size_t i = 0; i < WINDROWS; i++)
+        for (size_t j = 0; j < tallies[i].count; j++)
+            if (strstr(tallies[i].texts[j], "\\x") != NULL)
+                return true;
+    return false;
 }
 
 static void write_table(FILE *page, const struct season *season)
@@ -370,7 +389,8 @@ static void write_table(FILE *page, const struct season *season)
     write_row(page, "Turnings", "%.0f", (double)season->windrows[NORTH].turning_count,
               (double)season->windrows[SOUTH].turning_count);
     write_tallies(page, "Reasons for turning", season->reasons);
-    write_tallies(page, "Turned by, as filed: ? for each byte typed that is no printable ASCII", season->drivers);
+    write_tallies(page, "Turned by, as filed: since 2.2 with ? for each byte typed that is neither 00 nor 20 to 7E hex",
+                  season->drivers);
     write_row(page, "Too hot: raised over 70 °C, until cleared", "%.1f h", north->hot_hours, south->hot_hours);
     write_row(page, "Short of air, until cleared", "%.1f h", north->airless_hours, south->airless_hours);
     write_row(page, "Highest core temperature", "%.1f °C", north->highest, south->highest);
@@ -381,6 +401,10 @@ static void write_table(FILE *page, const struct season *season)
         fprintf(page, "<tr><th scope=\"row\">Water at the end, both windrows</th><td colspan=\"2\">%.0f litres</td></tr>\n",
                 season->litres);
     fputs("</tbody>\n</table>\n", page);
+    if (has_escapes(season->reasons) || has_escapes(season->drivers))
+        fputs("<p>Where a text has \\xHH in it, a gateway before 2.2 has filed this byte as it was typed, or it is a backslash "
+              "(\\x5C) or 00, which are written so too.</p>\n",
+              page);
 }
 
 /* The scan whose alarms begin at `first` ends before this one: its records lie behind each other and have one stamp. */

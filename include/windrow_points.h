@@ -237,7 +237,13 @@ static inline bool windrow_get_float(const uint8_t *table, uint32_t point, float
 
 /*
  * A text's byte as it is captured and polled live: clean text, above. For firmware that compares its table with a record, and for
- * software that can't bear the texts that gateways before 2.2 have filed.
+ * software that can't bear the texts that gateways before 2.2 have filed, nor the live ones that those of 2.0 and 2.1 send with
+ * any bytes. It leaves 00 as it is.
+ *
+ * Drivers that compare texts, or look them up: a name of your own must be cleaned before it is compared with a captured or live
+ * text, byte by byte, in the encoding in which it was typed (one byte of code page 437 is one ?, two of UTF-8 are two). Different
+ * names may become the same text, so it is no key. After an upgrade an archive has the same name in both forms, until the old
+ * records are captured over: clean the texts of every record before you group by them.
  */
 static inline uint8_t windrow_clean_byte(uint8_t byte)
 {
@@ -245,8 +251,9 @@ static inline uint8_t windrow_clean_byte(uint8_t byte)
 }
 
 /*
- * A text of up to 8 or 16 bytes, which are put as they are, clean or not. A shorter one is filled up with zeros; a longer one is
- * not put, and the answer is false.
+ * A text of up to 8 or 16 bytes, which are put as they are, clean or not. It must end in a zero, and ends at its first one. A
+ * shorter one is filled up with zeros; a longer one is not put, and the answer is false. A field of 8 or 16 bytes that has no
+ * closing zero, or has 00 inside, is copied to &table[windrow_point_at(windrow_row_of(point), point)] instead.
  */
 static inline bool windrow_put_text(uint8_t *table, uint32_t point, const char *text)
 {

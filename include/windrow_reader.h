@@ -68,12 +68,12 @@ struct windrow_stamp_answer {
 /*
  * A point's value: see enum windrow_kind (windrow_points.h) for what bits, place and length mean; those that its kind does not
  * use are 0. A text has no zero behind it and may be filled up with zeros: printf("%.*s", (int)p.length, (const char *)frame +
- * p.place).
+ * p.place). A 00 may also stand in the middle of one, and there %.*s ends.
  *
  * A text's bytes are those that the record has. In one that was captured by 2.2 or later they are 00 and 20 to 7E hex alone. One
  * that an earlier release has captured may have any, and stays in the archive when the gateway is brought up to date; a reply does
  * not tell which it is. So what can't bear other bytes hands each through windrow_clean_byte (windrow_points.h), which leaves
- * those of a clean text as they are.
+ * those of a clean text as they are, 00 too. What compares texts finds there what to do first.
  */
 struct windrow_point {
     uint32_t number;

@@ -157,6 +157,7 @@ class Page(RecordsCase):
         """The cells of a row of the table, whose heading begins so; None where there is no such row."""
         self.expect(FINE, "", "page", "out.html", *self.NAMES)
         page = self.read("out.html").decode()
+        self.tells_bytes = "<p>Where a text has \\xHH in it, a gateway before 2.2 has filed this byte as it was typed" in page
         row = re.search("<tr><th scope=\"row\">%s[^<]*</th><td>(.*)</td><td>(.*)</td></tr>" % heading, page)
         return row and row.groups()
 
@@ -167,8 +168,38 @@ class Page(RecordsCase):
         turns = "".join("2026-05-01T%02d:00:00,%s\n" % turn for turn in
                         ((8, '"calendar","Zo?"'), (9, '"calendar","<M&M>"'), (10, '"calendar","Zo?"'), (11, '"","Zo\\x89"')))
         self.write("south-turns", "stamp,14002,14004\n" + turns)
-        self.assertEqual(self.table_row("Reasons for turning"), ("too hot: 1", "calendar: 3<br>: 1"))
+        self.assertEqual(self.table_row("Reasons for turning"), ("too hot: 1", "calendar: 3<br><i>none given</i>: 1"))
         self.assertEqual(self.table_row("Turned by, as filed"), ("–", "Zo?: 2<br>&lt;M&amp;M&gt;: 1<br>Zo\\x89: 1"))
+
+    def named(self, *names):
+        """The cell of who turned south, where these are filed as they stand."""
+        self.write("south-turns", "stamp,14004\n" + "".join('2026-05-01T%02d:00:00,"%s"\n' % turn for turn in enumerate(names)))
+        return self.table_row("Turned by, as filed")[1]
+
+    def test_label_of_names_is_true(self):
+        """Only what was filed since 2.2 has a ? for a byte, and 00 has none."""
+        self.assertEqual(self.named("Zo?"), "Zo?: 1")
+        self.assertIn(">Turned by, as filed: since 2.2 with ? for each byte typed that is neither 00 nor 20 to 7E hex</th>",
+                      self.read("out.html").decode())
+
+    def test_bytes_in_a_text_are_told(self):
+        """Of before 2.2, a backslash or 00: in a name or in a reason. A text without any has no note."""
+        for name, told in ("Zo?", False), ("xHH", False), ("Zo\\x89", True), ("a\\x5Cb", True), ("\\x00b", True):
+            with self.subTest(name):
+                self.assertEqual(self.named("Anna", name), "Anna: 1<br>%s: 1" % name)
+                self.assertEqual(self.tells_bytes, told)
+        self.write("south-turns", 'stamp,14002\n2026-05-01T08:00:00,"hei\\xE1"\n')
+        self.assertEqual(self.table_row("Reasons for turning")[1], "hei\\xE1: 1")
+        self.assertTrue(self.tells_bytes)
+
+    def test_texts_past_the_eighth(self):
+        """Counted together, each record of them; the first eight go on to be counted one by one."""
+        eight = list("abcdefgh")
+        ones = "<br>".join("%s: 1" % name for name in eight)
+        self.assertEqual(self.named(*eight), ones)
+        self.assertEqual(self.named(*eight, "i"), ones + "<br><i>others</i>: 1")
+        self.assertEqual(self.named(*eight, "i", "j", "h", "i", ""), ones[:-1] + "2<br><i>others</i>: 4")
+        self.assertEqual(self.named("others", "none given", "", ""), "others: 1<br>none given: 1<br><i>none given</i>: 2")
 
     def order(self, *alarms):
         """The listed alarms of a season that has these: stamp, point, type and whether it was raised; None where none are listed."""
