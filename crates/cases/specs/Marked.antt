@@ -221,7 +221,10 @@ marked =
     ∷ groupBytes (tableWith 16 (bytesFrom 0x80 128)) 3001 64 gives bytesFrom 0x80 128
     ∷ groupBytes (tableWith 400 everyByte) 5101 64 gives everyByte
     ∷ groupBytes (tableWith 656 everyByte) 7101 64 gives everyByte
-    -- and the value that a text is captured with is the cleaned one
+    -- a byte is judged by itself: "Jürgen" in UTF-8, with two bytes for the second letter
+    ∷ groupBytes (tableWith 144 (0x4A ∷ 0xC3 ∷ 0xBC ∷ 0x72 ∷ 0x67 ∷ 0x65 ∷ 0x6E ∷ 0x00 ∷ [])) 4001 1
+    gives (0x4A ∷ 0x3F ∷ 0x3F ∷ 0x72 ∷ 0x67 ∷ 0x65 ∷ 0x6E ∷ 0x00 ∷ [])
+    -- the value that a text is captured with is the cleaned one
     ∷ valueIn (rowOf 4032) (tableWith 392 (0x57 ∷ 0x1F ∷ 0x20 ∷ 0x7E ∷ 0x7F ∷ 0x80 ∷ 0x00 ∷ 0xFF ∷ [])) 4032
     gives (0x57 ∷ 0x3F ∷ 0x20 ∷ 0x7E ∷ 0x3F ∷ 0x3F ∷ 0x00 ∷ 0x3F ∷ [])
     ∷ valueIn (rowOf 14016) (tableWith 1408 (bytesFrom 0x77 16)) 14016 gives (bytesFrom 0x77 8 ++ replicate 8 0x3F)

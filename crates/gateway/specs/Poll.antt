@@ -1,5 +1,5 @@
--- Document 01, "Frames", with document 02, L3, as a call: lent archive memory m, a live table, a frame and a reply buffer. Memory (1),
--- Foreign (2), Table (3), Reply (13).
+-- Document 01, "Frames", with document 02, L3 and L5, as a call: lent archive memory m, a live table, a frame and a reply buffer.
+-- Memory (1), Foreign (2), Table (3), Reply (13).
 use mathlib.Core.List.{List}
 use mathlib.Core.Path.{_≡_}
 use mathlib.Core.Bool.{cond, not}

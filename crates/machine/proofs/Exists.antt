@@ -44,7 +44,7 @@ gives s m start = answering (startAnswer s (length m)) (startMemory s m) (record
 gives s m (trigger f p) = answering (triggerAnswer s (length m) f p) m (record { answer = refl; memory = refl })
 gives s m (alarm k point type transducer) =
     answering (alarmAnswer s (length m) k point type transducer) m (record { answer = refl; memory = refl })
-gives s m (scan table stamp) = answering (scanAnswer s m table stamp) (scanMemory s m table stamp) (record { answer = refl; memory = refl; kept = refl })
+gives s m (scan table stamp) = answering (scanAnswer s m table stamp) (scanMemory s m table stamp) (table, record { answer = refl; memory = refl; kept = refl })
 gives s m (poll table frame buffer) =
     record {
       told = _;
@@ -53,7 +53,7 @@ gives s m (poll table frame buffer) =
       met = record {
         answer = pollAnswer s m table frame (length buffer);
         buffer = pollBuffer s m table frame buffer;
-        meets = record { answer = refl; memory = refl; kept = refl; reply = refl };
+        meets = (table, record { answer = refl; memory = refl; kept = refl; reply = refl });
         is = refl;
         left = refl;
       };

@@ -111,7 +111,7 @@ module _ (M : Machine) (m : List ℕ) (good : Good M m) where
     pub poll-steps : Steps M m (poll table frame buffer)
     poll-steps o s m′ given =
         record {
-          is = given .is ∙ ap₂ (λ r b. replied (r .number) (r .length) b) (given .meets .answer) (given .meets .reply) ∙ poll-outcome;
-          state = given .left ∙ ap (λ r. r .state) (given .meets .answer) ∙ poll-state;
-          good = subst (Good (step M (poll table frame buffer))) (sym (given .meets .memory)) poll-good;
+          is = given .is ∙ ap₂ (λ r b. replied (r .number) (r .length) b) (given .meets .1 .answer) (given .meets .1 .reply) ∙ poll-outcome;
+          state = given .left ∙ ap (λ r. r .state) (given .meets .1 .answer) ∙ poll-state;
+          good = subst (Good (step M (poll table frame buffer))) (sym (given .meets .1 .memory)) poll-good;
         }

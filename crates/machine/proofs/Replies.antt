@@ -78,7 +78,7 @@ module _ (s : State) (m table frame buffer : List ℕ) (taken : stateNumber s (l
       o ≡ repliedWith buffer (replyTo (pollView s m table) frame)
   unfolding pollAnswer pollBuffer
   poll-replies given =
-      given .is ∙ ap₂ (λ r b. replied (r .number) (r .length) b) (given .meets .answer) (given .meets .reply) ∙ rw poll-accepted refl
+      given .is ∙ ap₂ (λ r b. replied (r .number) (r .length) b) (given .meets .1 .answer) (given .meets .1 .reply) ∙ rw poll-accepted refl
 
 -- ---- after any list
 pub unit-kept : {dayFirst : Bool} {unit : ℕ} {m₀ : List ℕ} {cs : List Call} {os : List Outcome} {s : State} {m : List ℕ} →

@@ -84,4 +84,4 @@ module _ (M : Machine) (m : List ℕ) (good : Good M m) (table : List ℕ) (stam
       answers M m good (scan table stamp) refl _ scan-answer (scan-valid (stateOf M) m table stamp) (scanMemory (stateOf M) m table stamp)
       (scan-keeps-length (stateOf M) m table stamp
       ∙ by-step (λ N. length m ≡ N .site .archiveLength) M (scan table stamp) (good .long) (λ _. good .long)) scan-held
-      (given .answer) (given .meets .answer) (given .meets .memory) (given .is) (given .left)
+      (given .answer) (given .meets .1 .answer) (given .meets .1 .memory) (given .is) (given .left)

@@ -28,7 +28,7 @@ pub record Replying (Contract : PollAnswer → List ℕ → List ℕ → Type 0)
   pub is : o ≡ replied (answer .number) (answer .length) buffer
   pub left : s ≡ answer .state
 
--- a scan and a poll leave no other live table than the one that they were lent: their contracts say so (`kept`)
+-- t is the live table as the call leaves it
 abbrev pub Meets : State → List ℕ → Call → Outcome → State → List ℕ → Type 0
 Meets s m unlock = Answering (Unlocked s m)
 Meets s m lock = Answering (Locked s m)
@@ -37,8 +37,8 @@ Meets s m (define f gs n) = Answering (Defined s m f gs n)
 Meets s m start = Answering (Started s m)
 Meets s m (trigger f p) = Answering (TriggerSet s m f p)
 Meets s m (alarm k point type transducer) = Answering (AlarmSet s m k point type transducer)
-Meets s m (scan table stamp) = Answering (λ r m′. Scanned s m table stamp r m′ table)
-Meets s m (poll table frame buffer) = Replying (λ r m′. Polled s m table frame buffer r m′ table)
+Meets s m (scan table stamp) = Answering (λ r m′. (t : List ℕ) × Scanned s m table stamp r m′ t)
+Meets s m (poll table frame buffer) = Replying (λ r m′ buffer′. (t : List ℕ) × Polled s m table frame buffer r m′ t buffer′)
 
 -- ---- calls one after the other, each over the state and memory that the one before it left
 pub data Runs : State → List ℕ → List Call → List Outcome → State → List ℕ → Type 0 where
