@@ -29,7 +29,7 @@
  * Nothing is allocated or kept, and nothing changed but the request, the registers or the table that an inline function is given
  * to write, which must not overlap the frame. Any length and content of groups and frame is answered. Only a bool that is neither
  * 0 nor 1 must not be handed in, and the pointers must not be null, even with a length of 0. There is no shared or global data:
- * calls may run in any threads at the same time. A call needs less than 1 KiB of stack.
+ * calls may run in any threads at the same time. A call needs less than 1.25 KiB of stack.
  *
  * The functions that are declared here without a body are proved; the inline ones stand on them, and are tested.
  */

@@ -17,8 +17,8 @@
  */
 #define WINDROW_VERSION_MAJOR 2
 #define WINDROW_VERSION_MINOR 2
-#define WINDROW_VERSION_PATCH 0
-#define WINDROW_VERSION "2.2.0"
+#define WINDROW_VERSION_PATCH 1
+#define WINDROW_VERSION "2.2.1"
 
 /* The format of struct windrow_state as bytes. Store it beside a state, and hand no state of another format to these libraries. */
 #define WINDROW_STATE_FORMAT 1

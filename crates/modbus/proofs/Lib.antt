@@ -1,2 +1,3 @@
--- What callers' proofs cite of this crate.
+-- What callers' proofs cite of this crate, and what the proof of `crc_of` does.
 pub mod Laws
+pub mod Steps

@@ -1,39 +1,26 @@
-// CRC-16 by the bit rule of document 01, "Frames".
+// The CRC-16 of document 01, "Frames", a byte at a time by a table (document 02, L7).
 ghost use mathlib.Core.Path.{_≡_};
-ghost use Rattle.modbus.specs.Crc.{crcShift, crcByte, crcOf, endsInCrc};
+ghost use Rattle.modbus.specs.Crc.{crcOf, endsInCrc};
+use crate::crc_steps::CRC_STEPS;
 
-// One shift to the right, with the polynomial where the bit lost was 1.
-fn shift_once(c: u16) -> u16
-    ensures { λ r. ⌜ r ≡ crcShift c ⌝ }
-{
-    let half = c / 2;
-    if c % 2 == 1 { half ^ 0xA001 } else { half }
-}
-
-// One byte exclusive-ored in, then eight shifts.
-fn with_byte(c: u16, b: u8) -> u16
-    ensures { λ r. ⌜ r ≡ crcByte c b ⌝ }
-{
-    let mut sum = c ^ (b as u16);
-    let mut k: u8 = 0;
-    while k < 8 {
-        sum = shift_once(sum);
-        k += 1;
-    }
-    sum
-}
-
-// The CRC of a slice of any length.
+// The CRC of a slice of any length, its low and its high byte kept apart. Each byte of the slice takes one step: the table has what eight
+// shifts make of the low byte with that byte exclusive-ored in, and they move the high byte down as it is. The bytes are kept in words of
+// the machine, so that each is a whole register.
 pub fn crc_of(s: &[u8]) -> u16
     ensures { λ r. ⌜ r ≡ crcOf (now (s .entry)) ⌝ }
 {
-    let mut sum: u16 = 0xFFFF;
+    let steps = CRC_STEPS;
+    let mut low: usize = 0xFF;
+    let mut high: usize = 0xFF;
     let mut i: usize = 0;
     while i < s.len() {
-        sum = with_byte(sum, s[i]);
+        let k = low ^ (s[i] as usize);
+        let step = steps[k] as usize;
+        low = high ^ (step % 256);
+        high = step / 256;
         i += 1;
     }
-    sum
+    (high * 256 + low) as u16
 }
 
 // Whether a frame of any length ends in the CRC of what is before, low byte first.
