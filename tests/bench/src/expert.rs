@@ -2,7 +2,7 @@
 //! numbers worked out once and handed on, copies instead of loops over bytes but for texts, the CRC by a table, and nothing
 //! allocated. Every call judges all that it is handed, as ours do.
 
-mod crc;
+pub mod crc;
 pub mod gateway;
 pub mod points;
 pub mod polls;

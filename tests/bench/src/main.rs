@@ -1,14 +1,20 @@
 //! Times the proved code beside an expert's plain Rust, both built for release, in one run, and prints ratios. docs/PERFORMANCE.md
 //! has the figures and the command.
+//!
+//!     bench [frame_check]
+//!
+//! With the word only the frame check is timed. The status is 1 where that takes longer than document 02, L7, allows.
 
 mod calls;
 mod expert;
+mod frame_check;
 mod polls;
 mod texts;
 
+use std::env;
 use std::hint::black_box;
 use std::io::Write;
-use std::process::{Command, Stdio};
+use std::process::{exit, Command, Stdio};
 use std::time::{Duration, Instant};
 
 use expert::records::{stamp_bytes, write_record};
@@ -123,10 +129,26 @@ fn decoding() {
     report("61 points of a 250-byte record decoded", DECODES, proved, plain);
 }
 
-fn main() {
+/// All but the frame check.
+fn rows() {
     records("250-byte record of 61 floats written", "f", groups_from_first_place(&[(7101, 61)]));
     records("record of 127 Booleans from 1802 written", "b", groups_from_first_place(&[(1802, 127)]));
     decoding();
     let lock = calls::calls();
     polls::polls(&lock);
+}
+
+fn main() {
+    let words: Vec<String> = env::args().skip(1).collect();
+    match words.iter().map(String::as_str).collect::<Vec<_>>()[..] {
+        [] => rows(),
+        ["frame_check"] => (),
+        _ => {
+            eprintln!("bench [frame_check]");
+            exit(2);
+        }
+    }
+    if !frame_check::frame_check() {
+        exit(1);
+    }
 }
