@@ -20,7 +20,7 @@
  * probes fill one at any time, lend a copy.
  *
  * Stack: a call needs at most WINDROW_STACK_BYTES, the state that is handed over and the answer included. A reading-end call
- * needs less than 1.25 KiB (windrow_reader.h).
+ * needs less than 1 KiB (windrow_reader.h).
  *
  * Stored states: keep state and archive together, as of the same moment (in one file, synced and renamed, with a checksum), and
  * WINDROW_STATE_FORMAT with them. fresh, start and scan write the archive; one call other than fresh that leaves every byte of

@@ -29,7 +29,7 @@
  * Nothing is allocated or kept, and nothing changed but the request, the registers or the table that an inline function is given
  * to write, which must not overlap the frame. Any length and content of groups and frame is answered. Only a bool that is neither
  * 0 nor 1 must not be handed in, and the pointers must not be null, even with a length of 0. There is no shared or global data:
- * calls may run in any threads at the same time. A call needs less than 1.25 KiB of stack.
+ * calls may run in any threads at the same time. A call needs less than 1 KiB of stack.
  *
  * The functions that are declared here without a body are proved; the inline ones stand on them, and are tested.
  */
@@ -225,17 +225,17 @@ static inline struct windrow_alarm_answer windrow_read_alarm(bool day_first, con
     alarm.number = when.number;
     if (when.number != WINDROW_DONE)
         return alarm;
-    struct windrow_point value[5];
+    uint32_t bits[5]; /* and not five points, for the stack's sake */
     static const uint8_t place[5] = {1, 2, 3, 4, 4}, point[5] = {1, 1, 1, 1, 2};
     for (int i = 0; i < 5; i++)
-        value[i] = windrow_reader_point(groups, WINDROW_GROUP_NUMBERS, day_first, frame, frame_length, place[i], point[i]);
+        bits[i] = windrow_reader_point(groups, WINDROW_GROUP_NUMBERS, day_first, frame, frame_length, place[i], point[i]).bits;
     alarm.stamp = when.stamp;
-    alarm.point = (uint16_t)value[0].bits;
-    alarm.type = (uint8_t)(value[1].bits >> 8);
-    alarm.bit = (uint8_t)value[1].bits;
-    alarm.transducer = windrow_point_float(value[2]);
-    alarm.passes = windrow_point_int(value[3]);
-    alarm.litres = windrow_point_int(value[4]);
+    alarm.point = (uint16_t)bits[0];
+    alarm.type = (uint8_t)(bits[1] >> 8);
+    alarm.bit = (uint8_t)bits[1];
+    memcpy(&alarm.transducer, &bits[2], sizeof alarm.transducer);
+    memcpy(&alarm.passes, &bits[3], sizeof alarm.passes);
+    memcpy(&alarm.litres, &bits[4], sizeof alarm.litres);
     return alarm;
 }
 

@@ -16,7 +16,7 @@
 
 #define PROVED_STACK_BYTES 9216
 #define POLL_STACK_BYTES 7296 /* no room for a record or for one more copy of the state */
-#define READER_STACK_BYTES 1279 /* windrow_reader.h: less than 1.25 KiB, 512 bytes of it the table of CRC steps */
+#define READER_STACK_BYTES 1023 /* windrow_reader.h: less than 1 KiB */
 #define PAINT 0xA5
 
 static uint8_t stack[65536];
