@@ -1,3 +1,3 @@
--- What callers' proofs cite of this crate, and what the proof of `crc_of` does.
+-- What callers' proofs cite of this crate, and what the proof of `crc_of` cites.
 pub mod Laws
 pub mod Steps

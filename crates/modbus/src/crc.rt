@@ -4,11 +4,12 @@ ghost use Rattle.modbus.specs.Crc.{crcOf, endsInCrc};
 use crate::crc_steps::CRC_STEPS;
 
 // The CRC of a slice of any length, its low and its high byte kept apart. Each byte of the slice takes one step: the table has what eight
-// shifts make of the low byte with that byte exclusive-ored in, and they move the high byte down as it is. The bytes are kept in words of
-// the machine, so that each is a whole register.
+// shifts make of the low byte with that byte exclusive-ored in, and the eight shifts move the high byte down as it is. The two bytes are
+// in machine words, so that each has a whole register (docs/DECISIONS.md, D138).
 pub fn crc_of(s: &[u8]) -> u16
     ensures { λ r. ⌜ r ≡ crcOf (now (s .entry)) ⌝ }
 {
+    // before the loop: the compiler fills the table wherever it is named (D137)
     let steps = CRC_STEPS;
     let mut low: usize = 0xFF;
     let mut high: usize = 0xFF;

@@ -14,11 +14,11 @@ const BYTES: usize = 65_536;
 const RUNS: usize = 31;
 /// How often a run goes over all the frames.
 const PASSES: u32 = 8;
-/// The library may take so many times the expert's time.
+/// The library may take so many times the time of the faster of the expert's.
 const LIMIT: f64 = 1.5;
 
-/// The length of the frames, and whether the limit is held. It is not where a frame is so short that filling the table is most of
-/// the work: how long that takes depends on what else the core does (docs/PERFORMANCE.md).
+/// The length of the frames, and whether the limit is held. It is not of short frames, where filling the table is most of the work
+/// (docs/PERFORMANCE.md).
 const ROWS: [(&str, usize, bool); 3] =
     [("as 256 frames of 256 bytes", 256, true), ("as 8,192 frames of 8 bytes", 8, false), ("as one list", BYTES, true)];
 
@@ -67,7 +67,7 @@ fn spread(runs: &[[f64; 3]], figure: impl Fn(&[f64; 3]) -> f64) -> [f64; 3] {
 }
 
 /// Prints what 64 KiB of frames take on each side, the best with the range of all runs, and the ratios to the expert's two: of the
-/// best, and the median of the runs with their range. Answers whether the first is within the limit.
+/// best, and the median of the runs with their range. Answers whether the best is within the limit.
 fn row(name: &str, length: usize) -> bool {
     let bytes = frames(length);
     agree(&bytes, length);
@@ -80,14 +80,14 @@ fn row(name: &str, length: usize) -> bool {
         let ratio = proved[0] / times[0];
         println!("  {yardstick} {:.1} us (to {:.1}), ratio {ratio:.2}; {median:.2} ({least:.2}-{greatest:.2})", times[0], times[2]);
     }
-    proved[0] / plain[0] <= LIMIT
+    proved[0] <= LIMIT * plain[0].min(wide[0])
 }
 
-/// Prints all rows. Answers whether the library is within its limit where it is held.
+/// Prints all rows, and in how many the limit is held and kept. Answers whether it is kept wherever it is held.
 pub fn frame_check() -> bool {
-    let over = ROWS.iter().filter(|(name, length, is_held)| !row(name, *length) && *is_held).count();
-    if over > 0 {
-        println!("{over} of these are over {LIMIT} times the expert's time");
-    }
-    over == 0
+    let rows = ROWS.map(|(name, length, is_held)| (is_held, row(name, length)));
+    let held = rows.iter().filter(|(is_held, _)| *is_held).count();
+    let kept = rows.iter().filter(|(is_held, is_within)| *is_held && *is_within).count();
+    println!("{kept} of {held} within {LIMIT} times the faster expert's time");
+    kept == held
 }

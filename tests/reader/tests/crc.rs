@@ -18,7 +18,7 @@ fn every_step_from_every_sum() {
     assert!(sums.iter().all(|&is_seen| is_seen));
 }
 
-/// Of each length the first, the last and any byte count: random bytes, and the same with one bit of one byte flipped.
+/// Random bytes of each length; then a bit of the first byte is flipped, one of a byte in the middle, and one of the last.
 #[test]
 fn every_length_up_to_600_and_one_of_64_kib() {
     let mut random = Random::new(7);

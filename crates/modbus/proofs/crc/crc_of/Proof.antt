@@ -66,11 +66,12 @@ loop-again c =
     let more : now .i < length s = c .before .loop-test .taken in
     let byte : b < 256 = omega (arith, c .shared-slice-known .given (now .i)) in
     let is = step-at _ _ (now .inv .table) (array-read-step c) in
+    let turn = byte-by-step (now .low) (now .high) b _ (now .inv .small) (now .inv .large) byte is in
     record {
       at = omega arith;
       small = xor-lt 8 (now .high) _ (now .inv .large) (omega arith);
       large = omega (arith, step-fits _ _ (now .inv .table) (array-read-step c));
-      rest = rw (add-one, byte-by-step (now .low) (now .high) b _ (now .inv .small) (now .inv .large) byte is) (rw (drop-cons s (now .i) 0 more) at (now .inv .rest));
+      rest = rw (add-one, turn) (rw (drop-cons s (now .i) 0 more) at (now .inv .rest));
       table = now .inv .table;
     }
 
