@@ -17,8 +17,8 @@ const PASSES: u32 = 8;
 /// The library may take so many times the time of the faster of the expert's.
 const LIMIT: f64 = 1.5;
 
-/// The length of the frames, and whether the limit is held. It is not of short frames, where filling the table is most of the work
-/// (docs/PERFORMANCE.md).
+/// The length of the frames, and whether the limit is held. It is not held for short frames, where filling the table is most of the
+/// work (docs/PERFORMANCE.md).
 const ROWS: [(&str, usize, bool); 3] =
     [("as 256 frames of 256 bytes", 256, true), ("as 8,192 frames of 8 bytes", 8, false), ("as one list", BYTES, true)];
 

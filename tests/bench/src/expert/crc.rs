@@ -22,8 +22,8 @@ pub fn crc(bytes: &[u8]) -> u16 {
     bytes.iter().fold(0xFFFF, |crc, &byte| crc >> 8 ^ CRC_STEPS[usize::from(crc as u8 ^ byte)])
 }
 
-/// The same in a whole register. Where the sum has 16 bits, the compiler starts it with a store of 16 bits, for which the processor
-/// waits until the register's other bits are known: until the CRC before is done.
+/// The same in a whole register. A sum of 16 bits starts by writing the low 16 bits of a register, and the processor waits for the rest
+/// of it, which the CRC before leaves.
 #[inline]
 pub fn wide_crc(bytes: &[u8]) -> u16 {
     bytes.iter().fold(0xFFFF_u32, |crc, &byte| crc >> 8 ^ u32::from(CRC_STEPS[usize::from(crc as u8 ^ byte)])) as u16
