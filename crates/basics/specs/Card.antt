@@ -7,11 +7,11 @@ use lib.Dec.{eqb}
 abbrev pub doneNo : ℕ
 doneNo = 0
 
--- archive length not the state's; fresh: under 11,000 or over 1,048,576
+-- archive length not the state's; fresh: under 11,000 (firmware 73: 3,300) or over 1,048,576
 abbrev pub memoryNo : ℕ
 memoryNo = 1
 
--- a state or unit against its rule
+-- a state, a unit or a firmware against its rule
 abbrev pub foreignNo : ℕ
 foreignNo = 2
 

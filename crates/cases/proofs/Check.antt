@@ -5,7 +5,7 @@ use Rattle.points.specs.Table.{rows, inRow, rowIn, rowOf, pointsSize, floatOrNo
 use Rattle.points.specs.Groups.{unused, endsInRow, groupOf, groupsSize, firstBad, recordSize, judged}
 use Rattle.basics.specs.Lists.{tabulate}
 use Rattle.modbus.specs.Crc.{crcShift, crcShifts, crcByte, crcFrom, crcOf, withCrc, endsInCrc}
-use Rattle.modbus.specs.Frame.{readReplyBy}
+use Rattle.modbus.specs.Frame.{readReplyBy, highBitSet, exceptionReply}
 use Rattle.records.specs.Stamp.{dateInRange, timeInRange, inRange, stampBytes, stampFrom}
 use Rattle.records.specs.Record.{capturedGroups, recordOf}
 use Rattle.records.specs.Capture.{flags, fromBits, packedByte, textByte, capturedByte, capturedPoints}
@@ -20,13 +20,14 @@ use Rattle.archive.specs.Alarms.{goodSlot, goodSlots, logs, alarmsAt, alarmsFro
 use Rattle.archive.specs.Scan.{appended, filesScanned}
 use Rattle.polls.specs.Addresses.{recordAsked, pointsAsked, readAsked}
 use Rattle.polls.specs.Frames.{isHeard, asked, replyOf, replyTo}
+use Rattle.state.specs.Firmware.{goodFirmware, alarmDepth}
 use Rattle.state.specs.State.{freshState}
-use Rattle.state.specs.Validity.{goodTriggers, settingsValid, withinLimits, filesValid, valid, stateNumber}
-use Rattle.gateway.specs.Calls.{unlockAnswer, triggerAnswer, definitionAnswer, defineAnswer, startAnswer, freshNumber, freshAnswer}
+use Rattle.state.specs.Validity.{goodTriggers, settingsValid, withinLimits, filesValid, siteValid, valid, stateNumber}
+use Rattle.gateway.specs.Calls.{unlockAnswer, lockAnswer, triggerAnswer, definitionAnswer, defineAnswer, startAnswer, freshNumber, freshAnswer}
 use Rattle.gateway.specs.Scan.{scanNumber, archiveLeft, scanAnswer, scanMemory}
 use Rattle.gateway.specs.Poll.{pollView, pollNumber, pollBuffer}
 use Rattle.cases.specs.Marked.{marked, allHold}
 
 pub marked-cases-hold : allHold marked ≡ true
-unfolding marked judged recordSize groupsSize firstBad groupOf unused endsInRow pointsSize rowOf rowIn inRow rows tabulate stampBytes flags fromBits packedByte textByte capturedByte capturedPoints bytesInTable valueInTable floatOrNone every isGood goodFiles freshState booleanOrNone goodTriggers valid stateNumber unlockAnswer definitionAnswer defineAnswer startAnswer freshNumber freshAnswer triggerAnswer slotAfter captured capturedAll pointerAfter recordAfter isOn logs alarmsAt alarmsFrom alarmsInOrder dateInRange timeInRange inRange capturedGroups recordOf scanNumber archiveLeft scanAnswer scanMemory limitOf sizeOf baseOf layoutSize hasRoom goodSlot goodSlots withinLimits filesValid settingsValid doesCapture fileRecords recordsLogged appended filesScanned crcShift crcShifts crcByte crcFrom crcOf withCrc endsInCrc readReplyBy stampFrom isReply recordChecked replyChecked frameChecked recordAnswer stretchChecked pointValue bytesInStretch valueInStretch recordAsked pointsAsked readAsked isHeard asked replyOf replyTo pollView pollNumber pollBuffer
+unfolding marked judged recordSize groupsSize firstBad groupOf unused endsInRow pointsSize rowOf rowIn inRow rows tabulate stampBytes flags fromBits packedByte textByte capturedByte capturedPoints bytesInTable valueInTable floatOrNone every isGood goodFiles goodFirmware alarmDepth freshState booleanOrNone goodTriggers siteValid valid stateNumber unlockAnswer lockAnswer definitionAnswer defineAnswer startAnswer freshNumber freshAnswer triggerAnswer slotAfter captured capturedAll pointerAfter recordAfter isOn logs alarmsAt alarmsFrom alarmsInOrder dateInRange timeInRange inRange capturedGroups recordOf scanNumber archiveLeft scanAnswer scanMemory limitOf sizeOf baseOf layoutSize hasRoom goodSlot goodSlots withinLimits filesValid settingsValid doesCapture fileRecords recordsLogged appended filesScanned crcShift crcShifts crcByte crcFrom crcOf withCrc endsInCrc readReplyBy highBitSet exceptionReply stampFrom isReply recordChecked replyChecked frameChecked recordAnswer stretchChecked pointValue bytesInStretch valueInStretch recordAsked pointsAsked readAsked isHeard asked replyOf replyTo pollView pollNumber pollBuffer
 marked-cases-hold = refl

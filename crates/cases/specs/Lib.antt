@@ -1,2 +1,3 @@
 pub mod Marked
 pub mod Run
+pub mod OlderRun

@@ -1,4 +1,4 @@
--- Document 01, "Marked cases and known blunders": the marked cases, one list, and behind them cases of document 02, L1 and L5.
+-- Document 01, "Marked cases and known blunders": the marked cases, one list, and behind them cases of document 02, L1, L5 and L8.
 -- proofs/Check.antt computes them all at once.
 use mathlib.Core.List.{List, [], _∷_, _++_}
 use mathlib.Core.Bool.{Bool, true, false, _&&_}
@@ -9,7 +9,8 @@ use lib.ListN.{length, getD, take, replicate}
 use Rattle.points.specs.declared.table.Found.{Found}
 use Rattle.points.specs.declared.table.Found.the-variants.{In, Nowhere}
 use Rattle.points.specs.Table.{tableBytes, rowOf}
-use Rattle.basics.specs.Card.{Card, doneNo, clockNo, groupNo, longNo, garbledNo, emptyNo}
+use Rattle.basics.specs.Card.{Card, doneNo, memoryNo, foreignNo, clockNo, groupNo, longNo, garbledNo, emptyNo}
+use Rattle.modbus.specs.Word.{wordBytes}
 use Rattle.modbus.specs.Crc.{withCrc}
 use Rattle.modbus.specs.Frame.{readReply}
 use Rattle.points.specs.Groups.{groupOf, recordSize, judgedCard}
@@ -21,7 +22,8 @@ use Rattle.reader.specs.Answers.{recordAnswer, pointValue, pointAnswer}
 use Rattle.archive.specs.Ring.{ring, capturedAll, pointerAfter, recordAfter}
 use Rattle.state.specs.declared.parts.State.{State}
 use Rattle.gateway.specs.declared.calls.Answer.{Answer}
-use Rattle.gateway.specs.Calls.{freshAnswer, unlockAnswer, triggerAnswer, defineAnswer, startAnswer}
+use Rattle.state.specs.State.{freshState, withScan, withRequested}
+use Rattle.gateway.specs.Calls.{freshAnswer, unlockAnswer, lockAnswer, triggerAnswer, defineAnswer, startAnswer}
 use Rattle.gateway.specs.Scan.{scanAnswer, scanMemory}
 use Rattle.gateway.specs.Poll.{pollBuffer}
 
@@ -78,15 +80,40 @@ abbrev valueIn : Found → List ℕ → ℕ → List ℕ
 valueIn Nowhere table p = []
 valueIn (In r) table p = shownValue (valueInTable table r p)
 
--- fresh for unit 1, unlocked, file 1 defined as one record of these groups, then started: what Start answers
-abbrev started : ℕ → List ℕ → Answer
-started size gs =
-    let fresh = freshAnswer false 1 size .state in
+-- the number that Fresh answers: a unit, a firmware and a length of memory
+abbrev freshTold : ℕ → ℕ → ℕ → List ℕ
+freshTold unit firmware size = freshAnswer false unit firmware size .number ∷ []
+
+-- the number that Lock answers to a state as Fresh leaves one, over memory of some length
+abbrev lockTold : State → ℕ → List ℕ
+lockTold s size = lockAnswer s size .number ∷ []
+
+abbrev stored : ℕ → ℕ → State
+stored firmware size = freshState false 1 firmware size
+
+-- the same to such a state with a pointer or a requested number of the alarm file
+abbrev pointerTold : ℕ → ℕ → ℕ → List ℕ
+pointerTold firmware size pointer =
+    lockTold (withScan (stored firmware size) (replicate 10 0 ++ (pointer ∷ [])) (replicate 16 0)) size
+
+abbrev requestedTold : ℕ → ℕ → ℕ → List ℕ
+requestedTold firmware size number = lockTold (withRequested (stored firmware size) (replicate 10 0 ++ (number ∷ []))) size
+
+-- fresh for unit 1 and a firmware, unlocked, file 1 defined as one record of these groups, then started: what Start answers
+abbrev started : ℕ → ℕ → List ℕ → Answer
+started firmware size gs =
+    let fresh = freshAnswer false 1 firmware size .state in
     let unlocked = unlockAnswer fresh size .state in
     startAnswer (defineAnswer unlocked size 1 (groups gs) 1 .state) size
 
-abbrev oneBareStamp : ℕ → List ℕ
-oneBareStamp size = started size [] .number ∷ []
+abbrev oneBareStamp : ℕ → ℕ → List ℕ
+oneBareStamp firmware size = started firmware size [] .number ∷ []
+
+-- the first n bytes of the reply to 03 on 731 for an alarm record with this number, zeros in memory
+abbrev alarmReplied : ℕ → ℕ → ℕ → ℕ → List ℕ
+alarmReplied firmware size k n =
+    let frame = withCrc (0x01 ∷ 0x03 ∷ 0x02 ∷ 0xDB ∷ wordBytes k) in
+    take n (pollBuffer (started firmware size [] .state) (replicate size 0) (tableWith 0 []) frame (replicate 256 0))
 
 -- captures 1 to c of one byte each, its own number, the newest first
 abbrev numbered : ℕ → List (List ℕ)
@@ -102,7 +129,7 @@ formulas n c = pointerAfter n c ∷ tabulate n (λ i. getD (recordAfter n 1 (num
 
 -- file 1 of one bare stamp with trigger 1801, started
 abbrev watching : State
-watching = triggerAnswer (started 11006 [] .state) 11006 1 1801 .state
+watching = triggerAnswer (started 74 11006 [] .state) 11006 1 1801 .state
 
 abbrev nothing : List ℕ
 nothing = replicate 11006 0
@@ -153,7 +180,7 @@ everyClean = 0x00 ∷ replicate 31 0x3F ++ (bytesFrom 0x20 95 ++ replicate 129 0
 abbrev replied : List ℕ → List ℕ
 replied kept =
     let frame = withCrc (0x01 ∷ 0x03 ∷ 0x02 ∷ 0xD1 ∷ 0x00 ∷ 0x01 ∷ []) in
-    take (14 + 5) (pollBuffer (started 11014 (4001 ∷ 1 ∷ []) .state) (kept ++ replicate 11000 0) flagOff frame (replicate 256 0))
+    take (14 + 5) (pollBuffer (started 74 11014 (4001 ∷ 1 ∷ []) .state) (kept ++ replicate 11000 0) flagOff frame (replicate 256 0))
 
 -- what the reading end makes of such a reply's text: the number, the kind, the text's place and its length
 abbrev textTold : List ℕ → List ℕ
@@ -190,9 +217,9 @@ marked =
     -- Value -5 at 3001: FF FB hex
     ∷ valueIn (rowOf 3001) (tableWith 16 (0xFF ∷ 0xFB ∷ [])) 3001 gives shownNumber (negsuc 4)
     ∷ groupBytes (tableWith 16 (0xFF ∷ 0xFB ∷ [])) 3001 1 gives (0xFF ∷ 0xFB ∷ [])
-    -- Memory 11,006: one file of one bare stamp starts; 11,005: 11
-    ∷ oneBareStamp 11006 gives (0 ∷ [])
-    ∷ oneBareStamp 11005 gives (11 ∷ [])
+    -- Memory 11,006: one file of one bare stamp starts; 11,005: 11 (for firmware 74: L8)
+    ∷ oneBareStamp 74 11006 gives (0 ∷ [])
+    ∷ oneBareStamp 74 11005 gives (11 ∷ [])
     -- n = 4, c = 5: pointer 1, record 1 is capture 5, record 2 capture 2. c = 4: pointer 4
     ∷ captures 4 5 gives (1 ∷ 5 ∷ 2 ∷ 3 ∷ 4 ∷ [])
     ∷ formulas 4 5 gives (1 ∷ 5 ∷ 2 ∷ 3 ∷ 4 ∷ [])
@@ -231,6 +258,46 @@ marked =
     -- what lies in archive memory is served as it is, and read as it stands
     ∷ replied oldRecord gives oldReply
     ∷ textTold oldReply gives (doneNo ∷ 5 ∷ 9 ∷ 8 ∷ [])
+    -- L8: memory 3,306 and 3,305 for firmware 73
+    ∷ oneBareStamp 73 3306 gives (0 ∷ [])
+    ∷ oneBareStamp 73 3305 gives (11 ∷ [])
+    -- Fresh: firmware, then memory, then unit; 329 is 73 + 256, 65,609 is 73 + 65,536
+    ∷ freshTold 1 72 0 gives (foreignNo ∷ [])
+    ∷ freshTold 1 75 11000 gives (foreignNo ∷ [])
+    ∷ freshTold 1 329 11000 gives (foreignNo ∷ [])
+    ∷ freshTold 1 65609 11000 gives (foreignNo ∷ [])
+    ∷ freshTold 0 73 0 gives (memoryNo ∷ [])
+    ∷ freshTold 0 73 3299 gives (memoryNo ∷ [])
+    ∷ freshTold 0 73 3300 gives (foreignNo ∷ [])
+    ∷ freshTold 1 73 3300 gives (doneNo ∷ [])
+    ∷ freshTold 1 74 10999 gives (memoryNo ∷ [])
+    ∷ freshTold 1 74 11000 gives (doneNo ∷ [])
+    ∷ freshTold 247 73 1048576 gives (doneNo ∷ [])
+    ∷ freshTold 1 73 1048577 gives (memoryNo ∷ [])
+    ∷ freshTold 248 74 1048577 gives (memoryNo ∷ [])
+    -- a state of another firmware is Foreign, and over memory of another length the lower Memory; 74's alarm file does not fit 3,300 bytes
+    ∷ lockTold (stored 74 11000) 11000 gives (doneNo ∷ [])
+    ∷ lockTold (stored 73 3300) 3300 gives (doneNo ∷ [])
+    ∷ lockTold (stored 72 11000) 11000 gives (foreignNo ∷ [])
+    ∷ lockTold (stored 75 11000) 11000 gives (foreignNo ∷ [])
+    ∷ lockTold (stored 329 11000) 11000 gives (foreignNo ∷ [])
+    ∷ lockTold (stored 75 11000) 10999 gives (memoryNo ∷ [])
+    ∷ lockTold (stored 74 3300) 3300 gives (foreignNo ∷ [])
+    -- pointer and requested number by the state's depth
+    ∷ pointerTold 73 11000 150 gives (doneNo ∷ [])
+    ∷ pointerTold 73 11000 151 gives (foreignNo ∷ [])
+    ∷ pointerTold 74 11000 500 gives (doneNo ∷ [])
+    ∷ pointerTold 74 11000 501 gives (foreignNo ∷ [])
+    ∷ requestedTold 73 11000 150 gives (doneNo ∷ [])
+    ∷ requestedTold 73 11000 151 gives (foreignNo ∷ [])
+    ∷ requestedTold 74 11000 500 gives (doneNo ∷ [])
+    ∷ requestedTold 74 11000 501 gives (foreignNo ∷ [])
+    -- an old driver reads to the end: record 150 is 22 bytes, 151 exception 03; for 74 that is 500 and 501
+    ∷ alarmReplied 73 3306 150 4 gives (0x01 ∷ 0x03 ∷ 0x16 ∷ 0x00 ∷ [])
+    ∷ alarmReplied 73 3306 151 5 gives (0x01 ∷ 0x83 ∷ 0x03 ∷ 0x01 ∷ 0x31 ∷ [])
+    ∷ alarmReplied 74 11006 151 4 gives (0x01 ∷ 0x03 ∷ 0x16 ∷ 0x00 ∷ [])
+    ∷ alarmReplied 74 11006 500 4 gives (0x01 ∷ 0x03 ∷ 0x16 ∷ 0x00 ∷ [])
+    ∷ alarmReplied 74 11006 501 5 gives (0x01 ∷ 0x83 ∷ 0x03 ∷ 0x01 ∷ 0x31 ∷ [])
     ∷ []
 
 -- ---- the check

@@ -1,7 +1,7 @@
--- One run of the plain machine of document 01, with document 02, L3 to L5: each call beside what it is answered, worked out by hand from the
--- papers, with CRCs from another computation. proofs/Ran.antt computes it. File 1 has two records of a stamp and point 3001, file 2 one of a
--- text of each kind with 3001 between them; both have trigger 1801, and file 1 later 1802. Slots 1 and 3 are on point 1803, later slot 5 on
--- 1805, slots 2 and 4 on 1806.
+-- One run of the plain machine of document 01, with document 02, L3 to L5 and L8: each call beside what it is answered, worked out by hand
+-- from the papers, with CRCs from another computation. proofs/Ran.antt computes it. File 1 has two records of a stamp and point 3001, file
+-- 2 one of a text of each kind with 3001 between them; both have trigger 1801, and file 1 later 1802. Slots 1 and 3 are on point 1803, later
+-- slot 5 on 1805, slots 2 and 4 on 1806.
 use mathlib.Core.List.{List, [], _∷_, _++_}
 use mathlib.Core.Bool.{false}
 use Prim.Native.Nat.{ℕ, _-_}
@@ -28,7 +28,7 @@ toldOf (s ∷ steps) = s .told ∷ toldOf steps
 
 -- ---- how a call is put
 -- 29 August 2007 11:mm:52
-abbrev at : ℕ → Stamp
+abbrev pub at : ℕ → Stamp
 at minute = record { month = 8; day = 29; year = 7; hour = 11; minute = minute; second = 52 }
 
 -- a live table of zeros, but for 1801 to 1808 as one byte, the two bytes of 3001, 5101 = 7, 5102 = 258, 7101 = 1.0, and two texts as an old
@@ -56,25 +56,26 @@ live =
     ++ (0x4E ∷ 0x4F ∷ 0x52 ∷ 0x54 ∷ 0x48 ∷ 0x09 ∷ 0x59 ∷ 0x41 ∷ 0x52 ∷ 0x44 ∷ 0x00 ∷ 0xFF ∷ 0x00 ∷ 0x80 ∷ 0x00 ∷ 0x7F ∷ []))))))
 
 -- a frame, lent that table and a reply buffer of 256 bytes EE hex
-abbrev asks : List ℕ → Call
+abbrev pub asks : List ℕ → Call
 asks frame = poll live frame (replicate 256 0xEE)
 
-abbrev done : Outcome
+abbrev pub done : Outcome
 done = answered doneCard
 
-abbrev refuses : ℕ → ℕ → Outcome
+abbrev pub refuses : ℕ → ℕ → Outcome
 refuses number carried = answered (card number carried)
 
 -- a reply at the start of that buffer, the rest as lent; none
-abbrev sends : List ℕ → Outcome
+abbrev pub sends : List ℕ → Outcome
 sends reply = replied doneNo (length reply) (reply ++ replicate (256 - length reply) 0xEE)
 
 abbrev silent : Outcome
 silent = sends []
 
--- ---- the run, from a Fresh for unit 11 hex, month first, with room for two records of 8 bytes and one of 32 beside the alarm file
+-- ---- the run, from a Fresh for unit 11 hex, month first, of firmware 74, with room for two records of 8 bytes and one of 32 beside the
+-- alarm file
 abbrev pub beginning : Machine
-beginning = fresh false 0x11 11048
+beginning = fresh false 0x11 74 11048
 
 unfoldable pub run : List Step
 run =

@@ -1,2 +1,2 @@
-// The marked cases of document 01, cases of document 02, and one run of the plain machine, computed on the definitions; see
-// specs/Marked.antt and specs/Run.antt. There is no code here.
+// The marked cases of document 01, cases of document 02, and a run of the plain machine for each firmware, computed on the definitions;
+// see specs/Marked.antt, specs/Run.antt and specs/OlderRun.antt. There is no code here.

@@ -1,6 +1,6 @@
 -- Laws of the calls' answers. Assumes nothing.
 --     refused-first    the state's own number, Memory (1) or Foreign (2), is byNumber before what the call itself would answer
---     fresh-parts      the length and the unit that Fresh takes
+--     fresh-parts, fresh-fits    what Fresh takes keeps its rules, and fits the state's fields
 --     refused-or-done    a call that has one number of its own
 --     own-next         where neither applies, the call's own answer stands
 --     point-small, slot-small    a point that is taken fits 16 bits, and so does a slot that is
@@ -16,10 +16,12 @@ use Rattle.points.specs.Table.{booleanOrNone, floatOrNone}
 use Rattle.points.proofs.Laws.{boolean-inside, float-inside}
 use Rattle.archive.specs.Alarms.{goodSlot}
 use Rattle.basics.specs.Numbers.{within}
-use Rattle.basics.proofs.Tests.{and-left, and-right, eq-or-not}
+use Rattle.basics.proofs.Tests.{and-left, and-right, eq-or-not, within-inside}
+use Rattle.modbus.specs.Frame.{goodUnit}
 use Rattle.state.specs.declared.parts.State.{State}
 use Rattle.gateway.specs.declared.calls.Answer.{Answer}
-use Rattle.gateway.specs.Calls.{told, done, settled, byNumber, leastMemory, mostMemory, freshNumber}
+use Rattle.gateway.specs.Calls.{told, done, settled, byNumber, mostMemory, freshNumber}
+use Rattle.state.specs.Firmware.{newerFirmware, goodFirmware, leastMemory}
 use Rattle.state.specs.Validity.{stateNumber}
 
 pub refused-first : (s : State) (size n : ℕ) (own : Answer) → n ≡ stateNumber s size → (n ≡ 0 → ⊥) → told s n 0 ≡ settled s size own
@@ -38,14 +40,32 @@ refused-or-done s new number refused k = go (eqb number 0) refused refl
     go true false is = refl
     go false r is = simp is
 
-pub fresh-parts : (unit size : ℕ) → freshNumber unit size ≡ 0 → (within leastMemory mostMemory size ≡ true) × (within 1 247 unit ≡ true)
+-- ---- what Fresh takes
+pub record FreshParts (unit firmware size : ℕ) : Type 0 where
+  pub known : goodFirmware firmware ≡ true
+  pub memory : within (leastMemory firmware) mostMemory size ≡ true
+  pub ours : goodUnit unit ≡ true
+
+pub fresh-parts : (unit firmware size : ℕ) → freshNumber unit firmware size ≡ 0 → FreshParts unit firmware size
 unfolding freshNumber
-fresh-parts unit size taken = go (within leastMemory mostMemory size) (within 1 247 unit) taken
+fresh-parts unit firmware size taken =
+    let all = go (goodFirmware firmware) (within (leastMemory firmware) mostMemory size) (goodUnit unit) taken in
+    record { known = all .0; memory = all .1; ours = all .2 }
   where
-    go : (a b : Bool) → _≡_ {A = ℕ} (cond (not a) 1 (cond (not b) 2 0)) 0 → (a ≡ true) × (b ≡ true)
-    go false b q = absurd (omega (arith, q))
-    go true false q = absurd (omega (arith, q))
-    go true true q = (refl, refl)
+    go : (k a b : Bool) → _≡_ {A = ℕ} (cond (not k) 2 (cond (not a) 1 (cond (not b) 2 0))) 0 → (k ≡ true) × (a ≡ true) × (b ≡ true)
+    go false a b q = absurd (omega (arith, q))
+    go true false b q = absurd (omega (arith, q))
+    go true true false q = absurd (omega (arith, q))
+    go true true true q = (refl, refl, refl)
+
+pub fresh-fits : (unit firmware size : ℕ) → freshNumber unit firmware size ≡ 0 → (unit ≤ 247) × (firmware ≤ newerFirmware) × (size ≤ mostMemory)
+unfolding goodFirmware
+fresh-fits unit firmware size taken =
+    let k = fresh-parts unit firmware size taken in (
+      within-inside 1 247 unit (k .ours) .1,
+      within-inside 73 newerFirmware firmware (k .known) .1,
+      within-inside (leastMemory firmware) mostMemory size (k .memory) .1,
+    )
 
 -- ---- what is stored in 16 bits
 pub point-small : (p : ℕ) → booleanOrNone p ≡ true → p ≤ 1928

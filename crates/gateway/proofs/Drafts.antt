@@ -1,18 +1,22 @@
 -- One file's definition written into the drafts: it stands there, and the others are as they were. Assumes nothing.
 --     written-here, written-elsewhere    the definition of a file after it
 --     drafts-stay-good                   good drafts stay good when a good definition is written
-use mathlib.Core.Path.{_≡_, sym, ap, _∙_}
+--     draft-room    whether the code finds room for the drafts is whether they fit
+use mathlib.Core.Path.{_≡_, sym, ap, ap₂, _∙_}
 use mathlib.Core.List.{List}
 use mathlib.Core.Logic.{⊎-elim}
-use mathlib.Core.Bool.{true}
+use mathlib.Core.Bool.{Bool, true}
 use Prim.Native.Nat.{ℕ, _*_, _≤_, _<_}
 use native.Mathlib.Omega.{arith}
 use lib.ListN.{length, take, drop, length-take, length-drop}
 use Rattle.basics.specs.Lists.{pasted}
 use Rattle.basics.proofs.Lists.{part-before, part-behind, part-here}
 use Rattle.basics.proofs.Tests.{eq-or-not, lt-or-le}
-use Rattle.archive.specs.Layout.{definition, isGood, goodFiles}
+use Rattle.archive.specs.Layout.{definition, isGood, goodFiles, layoutOf, hasRoom}
 use Rattle.archive.proofs.Layouts.{every-at, every-all, good-definition, good-file}
+use Rattle.state.specs.declared.parts.State.{State}
+use Rattle.state.specs.State.{depthOf}
+use Rattle.gateway.specs.Calls.{draftFits}
 
 pub written-here : (xs gs : List ℕ) (k : ℕ) → 32 * k ≤ length xs → length gs ≡ 32 → definition (pasted xs (32 * k) gs) k ≡ gs
 written-here xs gs k fits long =
@@ -45,3 +49,8 @@ drafts-stay-good xs gs k below good new = every-all (λ f. isGood (definition (p
     each j under =
         ⊎-elim (λ is. ap (λ f. isGood (definition (pasted xs (32 * k) gs) f)) is ∙ ap isGood (written-here xs gs k fits long) ∙ new)
         (λ other. ap isGood (written-elsewhere xs gs k j fits long other) ∙ every-at (λ f. isGood (definition xs f)) 10 j good under) (eq-or-not j k)
+
+-- ---- room for the drafts: the depth and the length of memory that the code goes by are the state's
+pub draft-room : (s : State) (depth size : ℕ) (r : Bool) → depth ≡ depthOf (s .site) → size ≡ s .site .«archive_length» →
+    r ≡ hasRoom (layoutOf (s .settings .draft) depth) size → draftFits s ≡ r
+draft-room s depth size r deep same told = sym (told ∙ ap₂ (λ d n. hasRoom (layoutOf (s .settings .draft) d) n) deep same)

@@ -1,11 +1,11 @@
 -- Laws of the poll. Assumes nothing.
 --     poll-number-is    the code's number, in the words of the definition
 --     poll-taken        none of a poll's numbers applies
---     poll-lends        what the answering function is lent then
+--     poll-lends, poll-sees    what the answering function is lent then, and sees: by the state's depth
 --     poll-refuses, poll-done    what a refused poll leaves, and one that is done
 --     poll-short        its reply's length fits
 --     poll-valid        it leaves a valid state valid
-use mathlib.Core.Path.{_≡_, refl, ap, _∙_}
+use mathlib.Core.Path.{_≡_, refl, ap, _∙_, subst}
 use mathlib.Core.List.{List}
 use mathlib.Core.Bool.{Bool, true, false, cond, not}
 use Prim.Native.Nat.{ℕ, _≤_}
@@ -16,14 +16,15 @@ use lib.ListN.{length}
 use Rattle.basics.specs.Card.{tableNo, replyNo, firstOf}
 use Rattle.basics.proofs.Tests.{by-cond}
 use Rattle.points.specs.Table.{tableBytes}
-use Rattle.archive.specs.Layout.{alarmDepth, definedFiles, allFiles}
+use Rattle.archive.specs.Layout.{layoutOf, definedFiles, allFiles}
 use Rattle.archive.specs.Lent.{SizesOf}
+use Rattle.polls.specs.View.{archiveView}
 use Rattle.polls.specs.Frames.{replyTo, Answers}
 use Rattle.polls.specs.Lent.{leastBuffer, LentPoll}
 use Rattle.polls.proofs.Laws.{requested-within}
 use Rattle.polls.proofs.Lengths.{reply-short}
 use Rattle.state.specs.declared.parts.State.{State}
-use Rattle.state.specs.State.{laidOut, withRequested}
+use Rattle.state.specs.State.{depthOf, laidOut, withRequested}
 use Rattle.state.specs.Validity.{stateNumber, valid}
 use Rattle.state.proofs.Clauses.{valid-split, valid-join, within-split, within-join, state-taken}
 use Rattle.gateway.specs.declared.poll.PollAnswer.{PollAnswer}
@@ -69,22 +70,30 @@ module _ (s : State) (m table frame buffer : List ℕ) where
   abbrev limits : List ℕ
   limits = s .files .layout .limits
 
-  pub poll-lends : (sizes : List ℕ) → pollNumber s (length m) (length table) (length buffer) ≡ 0 → SizesOf (s .files .layout .groups) sizes →
+  pub poll-lends : (sizes : List ℕ) (depth : ℕ) → depth ≡ depthOf (s .site) → pollNumber s (length m) (length table) (length buffer) ≡ 0 → SizesOf (s .files .layout .groups) sizes →
       length groups ≡ 320 → length limits ≡ definedFiles → length sizes ≡ definedFiles →
       length (s .files .pointers) ≡ allFiles → length (s .line .requested) ≡ allFiles →
-      LentPoll groups limits sizes alarmDepth (s .files .pointers) (s .line .requested) m table buffer
-  poll-lends sizes taken sized defines limited measured pointed numbered =
+      LentPoll groups limits sizes depth (s .files .pointers) (s .line .requested) m table buffer
+  poll-lends sizes depth deep taken sized defines limited measured pointed numbered =
       let all = poll-taken s (length m) (length table) (length buffer) taken in
       let state = state-taken s (length m) (all .state) in
       let holds = valid-split s (state .1) in
       record {
         layout = record { defines = defines; limited = limited; measured = measured; good = holds .laid; sized = sized };
-        room = rw (state .0) (holds .room);
+        room = rw (state .0, deep) (holds .room);
         pointed = pointed;
         numbered = numbered;
         whole = all .whole;
         buffered = all .buffered;
       }
+
+  pub poll-sees : (depth told : ℕ) (buffer′ requested′ : List ℕ) → depth ≡ depthOf (s .site) →
+      Answers (archiveView (s .site .unit) (layoutOf (s .files .layout) depth) (s .files .pointers) (s .line .requested) m table)
+      frame buffer told buffer′ requested′ → Answers (pollView s m table) frame buffer told buffer′ requested′
+  unfolding pollView
+  poll-sees depth told buffer′ requested′ deep =
+      subst (λ d. Answers (archiveView (s .site .unit) (layoutOf (s .files .layout) d) (s .files .pointers) (s .line .requested) m table)
+      frame buffer told buffer′ requested′) deep
 
   pub poll-done : (told : ℕ) (buffer′ requested′ : List ℕ) → pollNumber s (length m) (length table) (length buffer) ≡ 0 →
       Answers (pollView s m table) frame buffer told buffer′ requested′ →
@@ -113,6 +122,6 @@ module _ (s : State) (m table frame buffer : List ℕ) where
         room = k .room;
         pointers = k .pointers;
         requested = within-join _ (laidOut s) (requested-within (pollView s m table) frame (within-split (s .line .requested) (laidOut s) (k .requested)));
-        unit = k .unit;
+        site = k .site;
       }))
       (λ _. sound)

@@ -172,23 +172,29 @@ unfolding startMemory
 start-length s m = same-length (eqb (stateNumber s (length m)) 0 && (s .flags .pending && draftFits s)) m
 
 -- ---- Fresh
-pub fresh-made : (dayFirst : Bool) (unit : ℕ) (m : List ℕ) → freshNumber unit (length m) ≡ 0 →
-    (freshAnswer dayFirst unit (length m) ≡ done (freshState dayFirst unit (length m))) × (freshMemory unit m ≡ replicate (length m) 0)
-unfolding freshAnswer freshMemory
-fresh-made dayFirst unit m taken = (simp taken, simp taken)
+module _ (dayFirst : Bool) (unit firmware : ℕ) (m : List ℕ) where
+  abbrev number : ℕ
+  number = freshNumber unit firmware (length m)
 
--- refused, it hands back a state of zeros and leaves memory
-pub fresh-refused : (dayFirst : Bool) (unit : ℕ) (m : List ℕ) → (freshAnswer dayFirst unit (length m) .number ≡ 0 → ⊥) →
-    (freshAnswer dayFirst unit (length m) .state ≡ zeroState) × (freshMemory unit m ≡ m)
-unfolding freshAnswer freshMemory
-fresh-refused dayFirst unit m refused = go (eqb (freshNumber unit (length m)) 0) refused
-  where
-    go : (b : Bool) → (cond b (done (freshState dayFirst unit (length m))) (told zeroState (freshNumber unit (length m)) 0) .number ≡ 0 → ⊥) →
-        (cond b (done (freshState dayFirst unit (length m))) (told zeroState (freshNumber unit (length m)) 0) .state ≡ zeroState)
-        × (cond b (replicate (length m) 0) m ≡ m)
-    go true some = absurd (some refl)
-    go false some = (refl, refl)
+  abbrev made : State
+  made = freshState dayFirst unit firmware (length m)
 
-pub fresh-length : (unit : ℕ) (m : List ℕ) → length (freshMemory unit m) ≡ length m
+  pub fresh-made : freshNumber unit firmware (length m) ≡ 0 →
+      (freshAnswer dayFirst unit firmware (length m) ≡ done made) × (freshMemory unit firmware m ≡ replicate (length m) 0)
+  unfolding freshAnswer freshMemory
+  fresh-made taken = (simp taken, simp taken)
+
+  -- refused, it hands back a state of zeros and leaves memory
+  pub fresh-refused : (freshAnswer dayFirst unit firmware (length m) .number ≡ 0 → ⊥) →
+      (freshAnswer dayFirst unit firmware (length m) .state ≡ zeroState) × (freshMemory unit firmware m ≡ m)
+  unfolding freshAnswer freshMemory
+  fresh-refused refused = go (eqb number 0) refused
+    where
+      go : (b : Bool) → (cond b (done made) (told zeroState number 0) .number ≡ 0 → ⊥) →
+          (cond b (done made) (told zeroState number 0) .state ≡ zeroState) × (cond b (replicate (length m) 0) m ≡ m)
+      go true some = absurd (some refl)
+      go false some = (refl, refl)
+
+pub fresh-length : (unit firmware : ℕ) (m : List ℕ) → length (freshMemory unit firmware m) ≡ length m
 unfolding freshMemory
-fresh-length unit m = same-length (eqb (freshNumber unit (length m)) 0) m
+fresh-length unit firmware m = same-length (eqb (freshNumber unit firmware (length m)) 0) m

@@ -5,22 +5,23 @@
 use mathlib.Core.Path.{_≡_, refl, ap}
 use mathlib.Core.List.{List}
 use mathlib.Core.Bool.{Bool, true, false, not, _&&_}
-use Prim.Native.Nat.{ℕ, _-_, _≤_}
+use Prim.Native.Nat.{ℕ, _+_, _-_, _*_, _≤_}
 use native.Mathlib.Omega.{arith}
 use borrow.Author.Tests.{le-leb}
 use lib.ListN.{getD, set, replicate, getD-replicate}
 use Rattle.points.specs.Table.{booleanOrNone, floatOrNone}
 use Rattle.points.specs.Groups.{judgedCard, judged, firstBad, recordSize, groupsSize, groupOf, unused}
 use Rattle.archive.specs.declared.alarms.Slot.{Slot}
-use Rattle.archive.specs.Layout.{Layout, every, isGood, goodFiles, allFiles, alarmDepth, idleFiles, redefined, layoutOf, limitOf, sizeOf, baseOf, layoutSize, hasRoom}
+use Rattle.archive.specs.Layout.{Layout, every, isGood, goodFiles, allFiles, alarmSize, idleFiles, redefined, layoutOf, limitOf, sizeOf, baseOf, layoutSize, hasRoom}
 use Rattle.archive.specs.Alarms.{offSlot, slotCount, goodSlot, goodSlotAt, goodSlots}
 use Rattle.archive.proofs.Layouts.{every-at, every-all, set-holds}
 use Rattle.state.specs.declared.parts.State.{State}
+use Rattle.state.specs.Firmware.{alarmDepth, leastMemory}
 use Rattle.state.specs.State.{freshState, withFlags, withDraft, withTriggers, withSlots, restarted, drafted}
 use Rattle.state.specs.Validity.{goodTriggers, withinLimits, valid}
-use Rattle.state.proofs.Clauses.{valid-split, valid-join, within-join}
+use Rattle.state.proofs.Clauses.{valid-split, valid-join, site-join, within-join}
 use Rattle.gateway.specs.declared.calls.Answer.{Answer}
-use Rattle.gateway.specs.Calls.{told, unlockAnswer, lockAnswer, stopAnswer, triggerAnswer, alarmAnswer, defineAnswer, startAnswer, leastMemory, mostMemory, freshNumber}
+use Rattle.gateway.specs.Calls.{told, unlockAnswer, lockAnswer, stopAnswer, triggerAnswer, alarmAnswer, defineAnswer, startAnswer, mostMemory, freshNumber}
 use Rattle.basics.proofs.Tests.{within-inside}
 use Rattle.gateway.proofs.Answers.{fresh-parts}
 use Rattle.gateway.proofs.Drafts.{drafts-stay-good}
@@ -40,7 +41,7 @@ flags-valid s running unlocked pending apart v =
       room = k .room;
       pointers = k .pointers;
       requested = k .requested;
-      unit = k .unit;
+      site = k .site;
     })
 
 not-both : (a : Bool) → not (a && false) ≡ true
@@ -69,9 +70,10 @@ no-slots : goodSlots (replicate slotCount offSlot) ≡ true
 unfolding goodSlots every goodSlot booleanOrNone floatOrNone
 no-slots = refl
 
-idle-fits : (size : ℕ) → leastMemory ≤ size → hasRoom (layoutOf idleFiles alarmDepth) size ≡ true
+-- whatever the alarm file's depth
+idle-fits : (depth size : ℕ) → depth * alarmSize ≤ size → hasRoom (layoutOf idleFiles depth) size ≡ true
 unfolding hasRoom layoutSize baseOf limitOf sizeOf recordSize groupsSize groupOf unused
-idle-fits size long = le-leb leastMemory size long
+idle-fits depth size long = le-leb (0 + depth * alarmSize) size (omega (arith, long))
 
 -- ---- the calls
 -- the answer's state is valid if the one given is
@@ -106,7 +108,7 @@ module _ (s : State) (size : ℕ) where
         room = k .room;
         pointers = k .pointers;
         requested = k .requested;
-        unit = k .unit;
+        site = k .site;
       }))
 
   pub alarm-valid : (k point kind transducer : ℕ) → Stays s (alarmAnswer s size k point kind transducer)
@@ -126,7 +128,7 @@ module _ (s : State) (size : ℕ) where
         room = k .room;
         pointers = k .pointers;
         requested = k .requested;
-        unit = k .unit;
+        site = k .site;
       }))
 
   pub start-valid : Stays s (startAnswer s size)
@@ -142,7 +144,7 @@ module _ (s : State) (size : ℕ) where
         room = fits;
         pointers = zeros-within (drafted s);
         requested = zeros-within (drafted s);
-        unit = k .unit;
+        site = k .site;
       }))
       (λ _ none v. flags-valid s true false (s .flags .pending) refl v)
 
@@ -159,21 +161,24 @@ module _ (s : State) (size : ℕ) where
         room = k .room;
         pointers = k .pointers;
         requested = k .requested;
-        unit = k .unit;
+        site = k .site;
       }))
 
 -- ---- Fresh
-pub fresh-valid : (dayFirst : Bool) (unit size : ℕ) → freshNumber unit size ≡ 0 → valid (freshState dayFirst unit size) ≡ true
+pub fresh-valid : (dayFirst : Bool) (unit firmware size : ℕ) → freshNumber unit firmware size ≡ 0 →
+    valid (freshState dayFirst unit firmware size) ≡ true
 unfolding freshState
-fresh-valid dayFirst unit size taken =
-    valid-join (freshState dayFirst unit size) (record {
+fresh-valid dayFirst unit firmware size taken =
+    let k = fresh-parts unit firmware size taken in
+    let l = layoutOf idleFiles (alarmDepth firmware) in
+    valid-join (freshState dayFirst unit firmware size) (record {
       flags = refl;
       drafts = idle-good;
       triggers = no-triggers;
       slots = no-slots;
       laid = idle-good;
-      room = idle-fits size (within-inside leastMemory mostMemory size (fresh-parts unit size taken .0) .0);
-      pointers = zeros-within (layoutOf idleFiles alarmDepth);
-      requested = zeros-within (layoutOf idleFiles alarmDepth);
-      unit = fresh-parts unit size taken .1;
+      room = idle-fits (alarmDepth firmware) size (within-inside (leastMemory firmware) mostMemory size (k .memory) .0);
+      pointers = zeros-within l;
+      requested = zeros-within l;
+      site = site-join (freshState dayFirst unit firmware size .site) (k .ours) (k .known);
     })

@@ -3,7 +3,7 @@
 use mathlib.Core.List.{List}
 use mathlib.Core.Path.{_≡_}
 use mathlib.Core.Bool.{Bool, true, false, cond, not, _&&_}
-use Prim.Native.Nat.{ℕ, _-_, _*_}
+use Prim.Native.Nat.{ℕ, _-_}
 use lib.Dec.{eqb}
 use lib.ListN.{length, set, replicate}
 use Rattle.basics.specs.Card.{doneNo, memoryNo, foreignNo, fileNo, lockedNo, triggerNo, runningNo, roomNo, alarmNo}
@@ -11,9 +11,10 @@ use Rattle.basics.specs.Numbers.{within}
 use Rattle.modbus.specs.Frame.{goodUnit}
 use Rattle.points.specs.Table.{booleanOrNone}
 use Rattle.points.specs.Groups.{judgedCard}
-use Rattle.archive.specs.Layout.{definedFiles, alarmDepth, alarmSize, hasRoom, redefined}
+use Rattle.archive.specs.Layout.{definedFiles, hasRoom, redefined}
 use Rattle.archive.specs.Alarms.{slotCount, goodSlot}
 use Rattle.state.specs.declared.parts.State.{State}
+use Rattle.state.specs.Firmware.{goodFirmware, leastMemory}
 use Rattle.state.specs.State.{drafted, freshState, zeroState, withFlags, withDraft, withTriggers, withSlots, restarted}
 use Rattle.state.specs.Validity.{stateNumber}
 use Rattle.gateway.specs.declared.calls.Answer.{Answer}
@@ -115,24 +116,26 @@ pub record Started (s : State) (m : List ℕ) (r : Answer) (m′ : List ℕ) : T
   pub answer : r ≡ startAnswer s (length m)
   pub memory : m′ ≡ startMemory s m
 
--- ---- Fresh: archive length under 11,000, the alarm file alone, or over 1,048,576 is Memory (1), a unit not 1-247 is 2; refused, it
--- hands back a state of zeros
-abbrev pub leastMemory : ℕ
-leastMemory = alarmDepth * alarmSize
-
+-- ---- Fresh: a firmware other than 73 and 74 is 2, the one check before Memory (document 02, L8); archive length under the alarm file
+-- alone, 3,300 for 73 and 11,000 for 74, or over 1,048,576 is Memory (1); a unit not 1-247 is 2. Refused, it hands back a state of zeros
 abbrev pub mostMemory : ℕ
 mostMemory = 1048576
 
-unfoldable pub freshNumber : ℕ → ℕ → ℕ
-freshNumber unit size = cond (not (within leastMemory mostMemory size)) memoryNo (cond (not (goodUnit unit)) foreignNo doneNo)
+unfoldable pub freshNumber : ℕ → ℕ → ℕ → ℕ
+freshNumber unit firmware size =
+    cond (not (goodFirmware firmware)) foreignNo
+    (cond (not (within (leastMemory firmware) mostMemory size)) memoryNo
+    (cond (not (goodUnit unit)) foreignNo
+    doneNo))
 
-unfoldable pub freshAnswer : Bool → ℕ → ℕ → Answer
-freshAnswer dayFirst unit size =
-    cond (eqb (freshNumber unit size) 0) (done (freshState dayFirst unit size)) (told zeroState (freshNumber unit size) 0)
+unfoldable pub freshAnswer : Bool → ℕ → ℕ → ℕ → Answer
+freshAnswer dayFirst unit firmware size =
+    let number = freshNumber unit firmware size in
+    cond (eqb number 0) (done (freshState dayFirst unit firmware size)) (told zeroState number 0)
 
-unfoldable pub freshMemory : ℕ → List ℕ → List ℕ
-freshMemory unit m = cond (eqb (freshNumber unit (length m)) 0) (replicate (length m) 0) m
+unfoldable pub freshMemory : ℕ → ℕ → List ℕ → List ℕ
+freshMemory unit firmware m = cond (eqb (freshNumber unit firmware (length m)) 0) (replicate (length m) 0) m
 
-pub record MadeFresh (dayFirst : Bool) (unit : ℕ) (m : List ℕ) (r : Answer) (m′ : List ℕ) : Type 0 where
-  pub answer : r ≡ freshAnswer dayFirst unit (length m)
-  pub memory : m′ ≡ freshMemory unit m
+pub record MadeFresh (dayFirst : Bool) (unit firmware : ℕ) (m : List ℕ) (r : Answer) (m′ : List ℕ) : Type 0 where
+  pub answer : r ≡ freshAnswer dayFirst unit firmware (length m)
+  pub memory : m′ ≡ freshMemory unit firmware m

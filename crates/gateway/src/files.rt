@@ -11,8 +11,9 @@ use crate::calls::tell;
 use crate::calls::with_flags;
 use crate::calls::with_settings;
 use archive::alarms::Slot;
-use archive::layout::ALARM_DEPTH;
+use archive::layout::ALARM_SIZE;
 use archive::layout::Definitions;
+use archive::layout::file_size;
 use archive::layout::layout_size;
 use archive::layout::measure;
 use basics::card::DONE;
@@ -28,6 +29,8 @@ use basics::is_within;
 use points::groups::Judged;
 use points::groups::judge;
 use state::check::check;
+use state::firmware::alarm_depth;
+use state::firmware::is_firmware_good;
 use state::parts::Files;
 use state::parts::Flags;
 use state::parts::Line;
@@ -36,9 +39,7 @@ use state::parts::Settings;
 use state::parts::Site;
 use state::parts::State;
 
-// Fresh's least memory, the alarm file alone, and its most.
-const LEAST_MEMORY: usize = 11000;
-
+// Fresh's most memory; the least is the alarm file alone.
 const MOST_MEMORY: usize = 1048576;
 
 // Every byte of archive memory 0.
@@ -78,14 +79,14 @@ fn fresh_settings() -> Settings
 }
 
 // All flags off, files idle, triggers and slots 0, pointers and requested numbers 0.
-fn fresh_state(day_first: bool, unit: u8, size: u32) -> State
-    ensures { λ r. ⌜ r ≡ freshState «day_first» unit size ⌝ }
+fn fresh_state(day_first: bool, unit: u8, firmware: u16, size: u32) -> State
+    ensures { λ r. ⌜ r ≡ freshState «day_first» unit firmware size ⌝ }
 {
     let site = Site {
         archive_length: size,
         unit,
         day_first,
-        reserved: 0,
+        firmware,
     };
     let flags = Flags {
         running: false,
@@ -113,11 +114,14 @@ fn fresh_state(day_first: bool, unit: u8, size: u32) -> State
     }
 }
 
-// Fresh's own numbers: Memory (1), and 2 for its unit; 0 where neither applies.
-fn fresh_number(unit: u32, size: usize) -> u32
-    ensures { λ r. ⌜ r ≡ freshNumber unit size ⌝ }
+// Fresh's own numbers: 2 for its firmware, then Memory (1), then 2 for its unit; 0 where none applies.
+fn fresh_number(unit: u32, firmware: u32, size: usize) -> u32
+    ensures { λ r. ⌜ r ≡ freshNumber unit firmware size ⌝ }
 {
-    if size < LEAST_MEMORY {
+    if !is_firmware_good(firmware) {
+        return FOREIGN;
+    }
+    if size < file_size(alarm_depth(firmware), ALARM_SIZE) {
         return MEMORY;
     }
     if MOST_MEMORY < size {
@@ -131,16 +135,22 @@ fn fresh_number(unit: u32, size: usize) -> u32
 
 // Fresh: every archive byte 0 and the state as document 01's Fresh; refused, a state of zeros, and memory is not touched.
 #[no_mangle]
-pub extern "C" fn windrow_gateway_fresh(day_first: bool, unit: u32, archive: &mut [u8]) -> Answer
-    ensures { λ r. ⌜ MadeFresh «day_first» unit (now (archive .entry)) r (now (archive .exit)) ⌝ }
+pub extern "C" fn windrow_gateway_fresh(
+    day_first: bool,
+    unit: u32,
+    firmware: u32,
+    archive: &mut [u8],
+) -> Answer
+    ensures { λ r. ⌜ MadeFresh «day_first» unit firmware (now (archive .entry)) r (now (archive .exit)) ⌝ }
 {
     let size = archive.len();
-    let number = fresh_number(unit, size);
+    let number = fresh_number(unit, firmware, size);
     if number != DONE {
-        return tell(fresh_state(false, 0, 0), number, 0);
+        return tell(fresh_state(false, 0, 0, 0), number, 0);
     }
     clear(archive);
-    tell(fresh_state(day_first, unit as u8, size as u32), DONE, 0)
+    let made = fresh_state(day_first, unit as u8, firmware as u16, size as u32);
+    tell(made, DONE, 0)
 }
 
 // Drafts with the 32 numbers and the n of file f, counted from 0.
@@ -252,7 +262,7 @@ pub extern "C" fn windrow_gateway_start(s: State, archive: &mut [u8]) -> Answer
     }
     let settings = s.settings;
     let draft = settings.draft;
-    if !has_draft_room(draft, ALARM_DEPTH, size) {
+    if !has_draft_room(draft, checked.depth, size) {
         return tell(s, ROOM, 0);
     }
     clear(archive);

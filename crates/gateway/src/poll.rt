@@ -2,7 +2,6 @@
 ghost use mathlib.Core.Path.{_≡_};
 ghost use Rattle.basics.specs.Card.{firstOf};
 ghost use Rattle.gateway.specs.Poll.{lentNumber, Polled};
-use archive::layout::ALARM_DEPTH;
 use basics::card::DONE;
 use basics::card::REPLY;
 use basics::card::TABLE;
@@ -73,7 +72,7 @@ pub extern "C" fn windrow_gateway_poll(
         &state.files.layout.groups,
         &state.files.layout.limits,
         &checked.sizes,
-        ALARM_DEPTH,
+        checked.depth,
         &state.files.pointers,
         requested,
     );

@@ -28,7 +28,7 @@ use Rattle.archive.proofs.Layouts.{every-at, size-file}
 use Rattle.state.specs.declared.parts.State.{State}
 use Rattle.state.specs.State.{laidOut}
 use Rattle.state.specs.Validity.{valid}
-use Rattle.state.proofs.Clauses.{valid-split}
+use Rattle.state.proofs.Clauses.{valid-split, site-split}
 use Rattle.machine.specs.Machine.{Machine, Call, Outcome, after, fresh}
 use Rattle.machine.specs.View.{stateOf}
 use Rattle.machine.specs.Runs.{Ran}
@@ -87,10 +87,10 @@ sent-reply : (buffer reply : List ℕ) → sentBy (repliedWith buffer reply) ≡
 sent-reply buffer reply = take-append-seam reply _
 
 -- ---- file f after a list
-module _ {dayFirst : Bool} {unit : ℕ} {m₀ : List ℕ} {cs : List Call} {os : List Outcome} {s : State} {m : List ℕ}
-    (ran : Ran dayFirst unit m₀ cs os s m) (f : ℕ) (below : f < definedFiles) where
+module _ {dayFirst : Bool} {unit firmware : ℕ} {m₀ : List ℕ} {cs : List Call} {os : List Outcome} {s : State} {m : List ℕ}
+    (ran : Ran dayFirst unit firmware m₀ cs os s m) (f : ℕ) (below : f < definedFiles) where
   abbrev M : Machine
-  M = after (fresh dayFirst unit (length m₀)) cs
+  M = after (fresh dayFirst unit firmware (length m₀)) cs
 
   abbrev gs : List ℕ
   gs = definition (s .files .layout .groups) f
@@ -99,9 +99,9 @@ module _ {dayFirst : Bool} {unit : ℕ} {m₀ : List ℕ} {cs : List Call} {os :
   file-made : EachMade cs dayFirst gs (M .files .lists f)
   unfolding stateOf fresh
   file-made =
-      let site : M .site .dayFirst ≡ dayFirst = ap (λ x. x .dayFirst) (site-kept (fresh dayFirst unit (length m₀)) cs) in
+      let site : M .site .dayFirst ≡ dayFirst = ap (λ x. x .dayFirst) (site-kept (fresh dayFirst unit firmware (length m₀)) cs) in
       let laid : M .files .laidOut ≡ s .files .layout = ap (λ t. t .files .layout) (sym (ended ran .0 .state)) in
-      rw (site, laid) at (all-made dayFirst unit (length m₀) cs f below)
+      rw (site, laid) at (all-made dayFirst unit firmware (length m₀) cs f below)
 
   -- its definition, and the unit
   file-good : (judged gs ≡ Good (recordSize gs)) × (goodUnit unit ≡ true)
@@ -110,7 +110,7 @@ module _ {dayFirst : Bool} {unit : ℕ} {m₀ : List ℕ} {cs : List Call} {os :
       let end = ended ran in
       let k = valid-split s (subst (λ t. valid t ≡ true) (sym (end .0 .state)) (end .1 .sound)) in (
         judged-done gs (eqb-true _ _ (every-at (λ i. isGood (definition (s .files .layout .groups) i)) definedFiles f (k .laid) below)) .0,
-        subst (λ u. goodUnit u ≡ true) (unit-kept ran) (k .unit),
+        subst (λ u. goodUnit u ≡ true) (unit-kept ran) (site-split (s .site) (k .site) .0),
       )
 
   -- the reply with a record of it
@@ -127,14 +127,14 @@ module _ {dayFirst : Bool} {unit : ℕ} {m₀ : List ℕ} {cs : List Call} {os :
 
 -- ---- the claim
 pub demand-2 : Demand2
-demand-2 dayFirst unit m₀ cs os s m ran lent f below k buffer o polled =
+demand-2 dayFirst unit firmware m₀ cs os s m ran lent f below k buffer o polled =
     let file : f < allFiles = omega (arith, below) in
     let gs = definition (s .files .layout .groups) f in
     let bytes = recordBytes s m f k in
-    let told = same-bytes dayFirst unit m₀ cs os s m ran f file k buffer o polled in
+    let told = same-bytes dayFirst unit firmware m₀ cs os s m ran f file k buffer o polled in
     let sent = ap sentBy told ∙ sent-reply buffer (readReply unit bytes) in
-    let rs = after (fresh dayFirst unit (length m₀)) cs .files .lists f in
+    let rs = after (fresh dayFirst unit firmware (length m₀)) cs .files .lists f in
     let is = subst (λ size. ReadsAs (limitOf (laidOut s) f) size rs k bytes) (size-file (laidOut s) f below)
-    (end-reads _ _ _ _ _ _ _ ran .files f file .reads k (polled .first) (polled .last)) in
+    (end-reads _ _ _ _ _ _ _ _ ran .files f file .reads k (polled .first) (polled .last)) in
     subst (ComesBack cs dayFirst unit gs) (sym sent)
     (comes-back ran f below lent bytes (zeros-or-made cs dayFirst gs _ _ rs k bytes (file-made ran f below) is))

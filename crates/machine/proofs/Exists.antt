@@ -67,13 +67,13 @@ every-list-runs s m (c ∷ cs) =
     let rest = every-list-runs (one .state) (one .memory) cs in
     (one .told ∷ rest .0, rest .1, rest .2, next {c = c} (one .met) (rest .3))
 
-pub every-list-ran : (dayFirst : Bool) (unit : ℕ) (m₀ : List ℕ) (cs : List Call) → freshCard unit (length m₀) ≡ doneCard →
-    (os : List Outcome) × (s : State) × (m : List ℕ) × Ran dayFirst unit m₀ cs os s m
-every-list-ran dayFirst unit m₀ cs accepted =
-    let r = freshAnswer dayFirst unit (length m₀) in
-    let left = freshMemory unit m₀ in
-    let made : MadeFresh dayFirst unit m₀ r left = record { answer = refl; memory = refl } in
-    let taken = ap (λ k. k .number) (fresh-answers dayFirst unit m₀ r left made ∙ accepted) in
+pub every-list-ran : (dayFirst : Bool) (unit firmware : ℕ) (m₀ : List ℕ) (cs : List Call) → freshCard unit firmware (length m₀) ≡ doneCard →
+    (os : List Outcome) × (s : State) × (m : List ℕ) × Ran dayFirst unit firmware m₀ cs os s m
+every-list-ran dayFirst unit firmware m₀ cs accepted =
+    let r = freshAnswer dayFirst unit firmware (length m₀) in
+    let left = freshMemory unit firmware m₀ in
+    let made : MadeFresh dayFirst unit firmware m₀ r left = record { answer = refl; memory = refl } in
+    let taken = ap (λ k. k .number) (fresh-answers dayFirst unit firmware m₀ r left made ∙ accepted) in
     let rest = every-list-runs (r .state) left cs in (
       rest .0,
       rest .1,

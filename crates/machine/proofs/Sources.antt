@@ -118,9 +118,9 @@ module _ (all : List Call) where
   made-along M (c ∷ cs) among old =
       made-along (step M c) cs (λ x is. among x (List·Memᴰ·tail is)) (step-made M c (among c (List·Memᴰ·head refl)) old)
 
-pub all-made : (dayFirst : Bool) (unit size : ℕ) (cs : List Call) → AllMade cs (after (fresh dayFirst unit size) cs)
+pub all-made : (dayFirst : Bool) (unit firmware size : ℕ) (cs : List Call) → AllMade cs (after (fresh dayFirst unit firmware size) cs)
 unfolding fresh
-all-made dayFirst unit size cs = made-along cs (fresh dayFirst unit size) cs (λ c is. is) (λ f below i less. absurd (omega arith))
+all-made dayFirst unit firmware size cs = made-along cs (fresh dayFirst unit firmware size) cs (λ c is. is) (λ f below i less. absurd (omega arith))
 
 -- ---- a record of such a file
 pub zeros-or-made : (cs : List Call) (dayFirst : Bool) (gs : List ℕ) (n size : ℕ) (rs : List (List ℕ)) (k : ℕ) (bytes : List ℕ) →

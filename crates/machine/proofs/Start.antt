@@ -7,27 +7,29 @@
 use mathlib.Core.Path.{_≡_, refl, sym, ap, _∙_, subst}
 use mathlib.Core.List.{List, []}
 use mathlib.Core.Bool.{Bool, true, false, cond, not, _&&_}
-use Prim.Native.Nat.{ℕ}
+use Prim.Native.Nat.{ℕ, _*_}
 use native.Mathlib.Omega.{arith}
 use borrow.Author.Tests.{leb-true, eqb-true}
-use lib.Dec.{eqb}
+use lib.Dec.{eqb, ltb}
 use lib.ListN.{length, replicate, length-replicate}
 use Rattle.basics.specs.Card.{card, doneCard, doneNo, memoryNo, foreignNo, roomNo}
 use Rattle.basics.specs.Numbers.{within}
 use Rattle.modbus.specs.Frame.{goodUnit}
 use Rattle.basics.specs.Lists.{tabulate}
-use Rattle.archive.specs.Layout.{Layout, layoutSize, hasRoom}
+use Rattle.archive.specs.Layout.{Layout, alarmSize, layoutSize, hasRoom}
 use Rattle.archive.specs.Ring.{pointerAfter}
 use Rattle.archive.specs.Scan.{archiveOf, AllHold}
 use Rattle.archive.proofs.Scans.{empty-all-hold}
+use Rattle.state.specs.declared.parts.State.{State}
+use Rattle.state.specs.Firmware.{newerFirmware, goodFirmware, alarmDepth, leastMemory}
 use Rattle.state.specs.State.{freshState, zeroState}
 use Rattle.state.specs.Validity.{valid}
 use Rattle.state.proofs.Clauses.{valid-split}
 use Rattle.gateway.specs.declared.calls.Answer.{Answer}
-use Rattle.gateway.specs.Calls.{told, done, startAnswer, startMemory, leastMemory, mostMemory, freshNumber, freshAnswer, MadeFresh}
+use Rattle.gateway.specs.Calls.{told, done, startAnswer, startMemory, mostMemory, freshNumber, freshAnswer, MadeFresh}
 use Rattle.gateway.proofs.Settings.{start-length, fresh-made}
 use Rattle.gateway.proofs.Valid.{start-valid, fresh-valid}
-use Rattle.machine.specs.Machine.{Machine, start, draftFits, cardFor, restarted, withFlags, does, step, outcome, fresh, freshCard}
+use Rattle.machine.specs.Machine.{Machine, start, draftFits, cardFor, restarted, withFlags, does, step, outcome, fresh, leastArchive, freshCard}
 use Rattle.machine.specs.View.{pointersOf, stateOf, laidOutMemory}
 use Rattle.machine.specs.Runs.{FreshAnswers}
 use Rattle.machine.proofs.Memory.{memory-fixed}
@@ -90,46 +92,63 @@ module _ (M : Machine) (m : List ℕ) (good : Good M m) where
       (given .answer) (given .meets .answer) (given .meets .memory) (given .is) (given .left)
 
 -- ---- Fresh
-module _ (dayFirst : Bool) (unit : ℕ) (m : List ℕ) where
+-- archive memory starts where the alarm file alone fits
+least-same : (firmware : ℕ) → leastMemory firmware ≡ leastArchive firmware
+unfolding alarmDepth
+least-same firmware = go (ltb firmware newerFirmware)
+  where
+    go : (older : Bool) → cond older 150 500 * alarmSize ≡ cond older 3300 11000
+    go true = refl
+    go false = refl
+
+module _ (dayFirst : Bool) (unit firmware : ℕ) (m : List ℕ) where
   abbrev M₀ : Machine
-  M₀ = fresh dayFirst unit (length m)
+  M₀ = fresh dayFirst unit firmware (length m)
+
+  abbrev made : State
+  made = freshState dayFirst unit firmware (length m)
+
+  abbrev number : ℕ
+  number = freshNumber unit firmware (length m)
+
+  abbrev answer : Answer
+  answer = freshAnswer dayFirst unit firmware (length m)
 
   -- its answer, done or refused
-  fresh-card : card (freshAnswer dayFirst unit (length m) .number) (freshAnswer dayFirst unit (length m) .carried) ≡ freshCard unit (length m)
+  fresh-card : card (answer .number) (answer .carried) ≡ freshCard unit firmware (length m)
   unfolding freshCard freshAnswer freshNumber
-  fresh-card = go (within leastMemory mostMemory (length m)) (goodUnit unit)
+  fresh-card = rw (least-same firmware) (go (goodFirmware firmware) (within (leastArchive firmware) mostMemory (length m)) (goodUnit unit))
     where
       told-by : ℕ → Answer
-      told-by number = cond (eqb number 0) (done (freshState dayFirst unit (length m))) (told zeroState number 0)
+      told-by number = cond (eqb number 0) (done made) (told zeroState number 0)
 
-      go : (a b : Bool) →
-          (let r = told-by (cond (not a) memoryNo (cond (not b) foreignNo doneNo)) in card (r .number) (r .carried))
-          ≡ cond (not a) (card memoryNo 0) (cond (not b) (card foreignNo 0) doneCard)
-      go true true = refl
-      go true false = refl
-      go false b = refl
+      go : (k a b : Bool) →
+          (let r = told-by (cond (not k) foreignNo (cond (not a) memoryNo (cond (not b) foreignNo doneNo))) in card (r .number) (r .carried))
+          ≡ cond (not k) (card foreignNo 0) (cond (not a) (card memoryNo 0) (cond (not b) (card foreignNo 0) doneCard))
+      go true true true = refl
+      go true true false = refl
+      go true false b = refl
+      go false a b = refl
 
-  accepted : freshAnswer dayFirst unit (length m) .number ≡ 0 → freshNumber unit (length m) ≡ 0
+  accepted : answer .number ≡ 0 → number ≡ 0
   unfolding freshAnswer
-  accepted = go (eqb (freshNumber unit (length m)) 0) refl
+  accepted = go (eqb number 0) refl
     where
-      go : (b : Bool) → eqb (freshNumber unit (length m)) 0 ≡ b →
-          cond b (done (freshState dayFirst unit (length m))) (told zeroState (freshNumber unit (length m)) 0) .number ≡ 0 →
-          freshNumber unit (length m) ≡ 0
+      go : (b : Bool) → eqb number 0 ≡ b → cond b (done made) (told zeroState number 0) .number ≡ 0 → number ≡ 0
       go true is q = eqb-true _ _ is
       go false is q = q
 
-  fresh-state : freshState dayFirst unit (length m) ≡ stateOf M₀
+  fresh-state : made ≡ stateOf M₀
   unfolding fresh freshState stateOf pointersOf tabulate pointerAfter
   fresh-state = refl
 
-  pub fresh-began : (r : Answer) (m′ : List ℕ) → MadeFresh dayFirst unit m r m′ → r .number ≡ 0 → (r .state ≡ stateOf M₀) × Good M₀ m′
+  pub fresh-began : (r : Answer) (m′ : List ℕ) → MadeFresh dayFirst unit firmware m r m′ → r .number ≡ 0 → (r .state ≡ stateOf M₀) × Good M₀ m′
   unfolding fresh stateOf
-  fresh-began r m′ made taken =
-      let none = accepted (ap (λ a. a .number) (sym (made .answer)) ∙ taken) in
-      let sound = subst (λ s. valid s ≡ true) fresh-state (fresh-valid dayFirst unit (length m) none) in
-      let zeros = made .memory ∙ fresh-made dayFirst unit m none .1 in
-      let is = made .answer ∙ fresh-made dayFirst unit m none .0 in (
+  fresh-began r m′ by taken =
+      let none = accepted (ap (λ a. a .number) (sym (by .answer)) ∙ taken) in
+      let sound = subst (λ s. valid s ≡ true) fresh-state (fresh-valid dayFirst unit firmware (length m) none) in
+      let zeros = by .memory ∙ fresh-made dayFirst unit firmware m none .1 in
+      let is = by .answer ∙ fresh-made dayFirst unit firmware m none .0 in (
         ap (λ a. a .state) is ∙ fresh-state,
         subst (Good M₀) (sym zeros) (record {
           long = length-replicate (length m) 0;
@@ -139,4 +158,4 @@ module _ (dayFirst : Bool) (unit : ℕ) (m : List ℕ) where
       )
 
 pub fresh-answers : FreshAnswers
-fresh-answers dayFirst unit m r m′ made = ap (λ x. card (x .number) (x .carried)) (made .answer) ∙ fresh-card dayFirst unit m
+fresh-answers dayFirst unit firmware m r m′ made = ap (λ x. card (x .number) (x .carried)) (made .answer) ∙ fresh-card dayFirst unit firmware m

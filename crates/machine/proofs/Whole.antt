@@ -41,12 +41,12 @@ whole M {s} {s″} {m} is good (next {s′ = s′} {m′ = m′} {c = c} {o = o}
       rest .1,
     )
 
-pub ended : {dayFirst : Bool} {unit : ℕ} {m₀ : List ℕ} {cs : List Call} {os : List Outcome} {s : State} {m : List ℕ} →
-    Ran dayFirst unit m₀ cs os s m →
-    Follows (fresh dayFirst unit (length m₀)) cs os s m × Good (after (fresh dayFirst unit (length m₀)) cs) m
-ended {dayFirst} {unit} {m₀} ran =
-    let first = fresh-began dayFirst unit m₀ (ran .began) (ran .zeroed) (ran .made) (ran .taken) in
-    whole (fresh dayFirst unit (length m₀)) (first .0) (first .1) (ran .runs)
+pub ended : {dayFirst : Bool} {unit firmware : ℕ} {m₀ : List ℕ} {cs : List Call} {os : List Outcome} {s : State} {m : List ℕ} →
+    Ran dayFirst unit firmware m₀ cs os s m →
+    Follows (fresh dayFirst unit firmware (length m₀)) cs os s m × Good (after (fresh dayFirst unit firmware (length m₀)) cs) m
+ended {dayFirst} {unit} {firmware} {m₀} ran =
+    let first = fresh-began dayFirst unit firmware m₀ (ran .began) (ran .zeroed) (ran .made) (ran .taken) in
+    whole (fresh dayFirst unit firmware (length m₀)) (first .0) (first .1) (ran .runs)
 
 pub demand-3 : Demand3
-demand-3 dayFirst unit m₀ cs os s m ran = ended ran .0
+demand-3 dayFirst unit firmware m₀ cs os s m ran = ended ran .0

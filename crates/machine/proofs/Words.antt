@@ -104,7 +104,7 @@ good-reads M m good = record { running = refl; unlocked = refl; pending = refl; 
         }
 
 pub end-reads : EndsAsRead
-end-reads dayFirst unit m₀ cs os s m ran =
-    let M = after (fresh dayFirst unit (length m₀)) cs in
+end-reads dayFirst unit firmware m₀ cs os s m ran =
+    let M = after (fresh dayFirst unit firmware (length m₀)) cs in
     let end = ended ran in
     subst (λ t. EndReads M t m) (sym (end .0 .state)) (good-reads M m (end .1))

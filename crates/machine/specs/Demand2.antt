@@ -60,7 +60,7 @@ sentBy (replied number size buffer) = take size buffer
 -- after any list of calls that ran from an accepted Fresh, for files 1 to 10, by the file's laid-out groups
 abbrev pub Demand2 : Type 0
 Demand2 =
-    (dayFirst : Bool) (unit : ℕ) (m₀ : List ℕ) (cs : List Call) (os : List Outcome) (s : State) (m : List ℕ) →
-    Ran dayFirst unit m₀ cs os s m → LentBytes cs →
+    (dayFirst : Bool) (unit firmware : ℕ) (m₀ : List ℕ) (cs : List Call) (os : List Outcome) (s : State) (m : List ℕ) →
+    Ran dayFirst unit firmware m₀ cs os s m → LentBytes cs →
     (f : ℕ) → f < definedFiles → (k : ℕ) (buffer : List ℕ) (o : Outcome) → RecordPolled unit s m f k buffer o →
     ComesBack cs dayFirst unit (definition (s .files .layout .groups) f) (sentBy o)

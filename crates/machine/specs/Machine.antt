@@ -1,6 +1,7 @@
--- Document 01, "The plain machine", with document 02, L1 and L3 to L5: its state, and what each call does to it and is answered. Nothing here
--- knows of the gateway's state. Archive memory is no part of it: View.antt works it out from the lists of captures, so that emptied lists
--- are memory all zeros. Files are counted from 0, as in the archive's Layout.antt; calls name files and slots from 1, as the paper does.
+-- Document 01, "The plain machine", with document 02, L1, L3 to L5 and L8: its state, and what each call does to it and is
+-- answered. Nothing here knows of the gateway's state; of its crate only the rules of firmware are cited. Archive memory is no part of it:
+-- View.antt works it out from the lists of captures, so that emptied lists are memory all zeros. Files are counted from 0, as in the
+-- archive's Layout.antt; calls name files and slots from 1, as the paper does.
 use mathlib.Core.Bool.{Bool, true, false, cond, not, _&&_, _||_}
 use mathlib.Core.List.{List, [], _∷_}
 use Prim.Native.Nat.{ℕ, _-_}
@@ -16,7 +17,7 @@ use Rattle.records.specs.declared.stamp.Stamp.{Stamp}
 use Rattle.records.specs.Stamp.{inRange}
 use Rattle.archive.specs.declared.alarms.Slot.{Slot}
 use Rattle.archive.specs.declared.layout.Definitions.{Definitions}
-use Rattle.archive.specs.Layout.{Layout, layoutOf, limitOf, sizeOf, hasRoom, definedFiles, allFiles, alarmDepth, idleFiles, redefined}
+use Rattle.archive.specs.Layout.{Layout, layoutOf, limitOf, sizeOf, hasRoom, definedFiles, allFiles, idleFiles, redefined}
 use Rattle.archive.specs.Alarms.{offSlot, slotCount, goodSlot}
 use Rattle.archive.specs.Booleans.{sight}
 use Rattle.archive.specs.Ring.{pointerAfter, recordAfter}
@@ -24,12 +25,14 @@ use Rattle.archive.specs.Scan.{listScanned}
 use Rattle.polls.specs.View.{View}
 use Rattle.polls.specs.Frames.{replyTo, requestedAfter}
 use Rattle.polls.specs.Lent.{leastBuffer}
+use Rattle.state.specs.Firmware.{newerFirmware, goodFirmware, alarmDepth}
 
 -- ---- State
--- date order, unit and archive length
+-- date order, unit and archive length; the firmware (document 02, L8)
 pub record Site : Type 0 where
   pub dayFirst : Bool
   pub unit : ℕ
+  pub firmware : ℕ
   pub archiveLength : ℕ
 
 pub record Flags : Type 0 where
@@ -61,13 +64,14 @@ pub record Machine : Type 0 where
   pub seen : Seen
   pub files : Files
 
--- ---- Fresh: all flags off, files idle, triggers and slots 0, lists empty, requested 0. Date order, unit and archive length are fixed
+-- ---- Fresh: all flags off, files idle, triggers and slots 0, lists empty, requested 0. Date order, unit, firmware and archive length are
+-- fixed here
 abbrev pub emptied : Definitions → Files
 emptied definitions = record { laidOut = definitions; lists = λ f. []; requested = replicate allFiles 0 }
 
-unfoldable pub fresh : Bool → ℕ → ℕ → Machine
-fresh dayFirst unit archiveLength = record {
-  site = record { dayFirst = dayFirst; unit = unit; archiveLength = archiveLength };
+unfoldable pub fresh : Bool → ℕ → ℕ → ℕ → Machine
+fresh dayFirst unit firmware archiveLength = record {
+  site = record { dayFirst = dayFirst; unit = unit; firmware = firmware; archiveLength = archiveLength };
   flags = record { running = false; unlocked = false; pending = false };
   settings = record { drafted = idleFiles; triggers = replicate definedFiles 0; slots = replicate slotCount offSlot };
   seen = nothing;
@@ -91,9 +95,10 @@ pub data Call : Type 0 where
   -- live table, frame, reply buffer
   poll : List ℕ → List ℕ → List ℕ → Call
 
--- ---- Layout: files 1 to 10 in order, then the alarm file, of 500 records at any site; of the drafted and of the laid-out definitions
+-- ---- Layout: files 1 to 10 in order, then the alarm file, of as many records as the site's firmware has; of the drafted and of the
+-- laid-out definitions
 abbrev pub depthOf : Site → ℕ
-depthOf site = alarmDepth
+depthOf site = alarmDepth (site .firmware)
 
 abbrev pub draftOf : Machine → Layout
 draftOf m = layoutOf (m .settings .drafted) (depthOf (m .site))
@@ -200,18 +205,23 @@ does m (poll table frame buffer) = withRequested m (requestedAfter (viewOf m tab
 
 -- ---- the service card, judged by the machine's own state: the lowest number that applies, with what it carries, or done. Memory (1) and
 -- Foreign (2) apply to Fresh alone, as the machine keeps its own state and archive memory
-abbrev pub leastArchive : ℕ
-leastArchive = 11000
+
+-- Fresh's least archive length, by firmware: under 3,300 for 73 and under 11,000 for 74 is Memory, in the paper's own numbers (Runs.antt,
+-- `FreshAnswers`, compares them with the gateway's)
+abbrev pub leastArchive : ℕ → ℕ
+leastArchive firmware = cond (ltb firmware newerFirmware) 3300 11000
 
 abbrev pub mostArchive : ℕ
 mostArchive = 1048576
 
--- Fresh: archive length under 11,000 or over 1,048,576; unit not 1-247
-unfoldable pub freshCard : ℕ → ℕ → Card
-freshCard unit archiveLength =
-    cond (not (within leastArchive mostArchive archiveLength)) (card memoryNo 0)
+-- Fresh: firmware neither 73 nor 74, the one check before Memory (document 02, L8), though its number is the higher; archive length under
+-- the least or over 1,048,576; unit not 1-247
+unfoldable pub freshCard : ℕ → ℕ → ℕ → Card
+freshCard unit firmware archiveLength =
+    cond (not (goodFirmware firmware)) (card foreignNo 0)
+    (cond (not (within (leastArchive firmware) mostArchive archiveLength)) (card memoryNo 0)
     (cond (not (goodUnit unit)) (card foreignNo 0)
-    doneCard)
+    doneCard))
 
 -- the drafted layout does not exceed archive memory
 abbrev pub draftFits : Machine → Bool

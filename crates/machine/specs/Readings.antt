@@ -1,20 +1,22 @@
--- What is read of demand 3 at the end of a list of calls: its two formulas in its own words, the other things compared, and the reply to a
--- poll of a whole record. M is the machine after the list; a file's captures are those since it was last emptied.
+-- What is read of demand 3 at the end of a list of calls: its two formulas in its own words, the other things compared, the alarm file's
+-- depth, and the reply to a poll of a whole record. M is the machine after the list; a file's captures are those since it was last emptied.
 use mathlib.Core.Path.{_≡_}
 use mathlib.Core.List.{List, []}
 use mathlib.Core.Logic.{_⊎_}
-use mathlib.Core.Bool.{Bool, true}
+use mathlib.Core.Bool.{Bool, true, false}
 use Prim.Native.Nat.{ℕ, _+_, _-_, _*_, _%_, _≤_, _<_}
 use lib.ListN.{length, getD, drop, replicate}
 use Rattle.basics.specs.Card.{doneNo}
 use Rattle.basics.specs.Lists.{pasted, allZero}
-use Rattle.modbus.specs.Frame.{unitOf, functionOf, addressOf, quantityOf, readReply}
+use Rattle.basics.specs.Numbers.{within}
+use Rattle.modbus.specs.Frame.{unitOf, functionOf, addressOf, quantityOf, readReply, exceptionReply, illegalValue}
 use Rattle.points.specs.Table.{tableBytes}
-use Rattle.archive.specs.Layout.{limitOf, sizeOf, baseOf, layoutSize, allFiles}
+use Rattle.archive.specs.Layout.{limitOf, sizeOf, baseOf, layoutSize, allFiles, alarmFile}
 use Rattle.archive.specs.Ring.{recordIn}
 use Rattle.polls.specs.Frames.{isHeard}
 use Rattle.polls.specs.Lent.{leastBuffer}
 use Rattle.state.specs.declared.parts.State.{State}
+use Rattle.state.specs.Firmware.{olderFirmware, alarmDepth}
 use Rattle.state.specs.State.{laidOut}
 use Rattle.machine.specs.Machine.{Machine, layout, fresh, Call, poll, Outcome, replied, after}
 use Rattle.machine.specs.Runs.{Meets, Ran}
@@ -67,8 +69,14 @@ pub record EndReads (M : Machine) (s : State) (m : List ℕ) : Type 0 where
 -- after any list
 abbrev pub EndsAsRead : Type 0
 EndsAsRead =
-    (dayFirst : Bool) (unit : ℕ) (m₀ : List ℕ) (cs : List Call) (os : List Outcome) (s : State) (m : List ℕ) →
-    Ran dayFirst unit m₀ cs os s m → EndReads (after (fresh dayFirst unit (length m₀)) cs) s m
+    (dayFirst : Bool) (unit firmware : ℕ) (m₀ : List ℕ) (cs : List Call) (os : List Outcome) (s : State) (m : List ℕ) →
+    Ran dayFirst unit firmware m₀ cs os s m → EndReads (after (fresh dayFirst unit firmware (length m₀)) cs) s m
+
+-- ---- after any list the alarm file has as many records as the firmware that Fresh was given has (document 02, L8)
+abbrev pub DepthKept : Type 0
+DepthKept =
+    (dayFirst : Bool) (unit firmware : ℕ) (m₀ : List ℕ) (cs : List Call) (os : List Outcome) (s : State) (m : List ℕ) →
+    Ran dayFirst unit firmware m₀ cs os s m → limitOf (laidOut s) alarmFile ≡ alarmDepth firmware
 
 -- ---- a 03 for the whole record replies with the same bytes
 -- a 03 of 8 bytes to this unit that is heard, with this address and quantity
@@ -85,19 +93,22 @@ pub data ReadsRecord (unit : ℕ) (requested : List ℕ) (f k : ℕ) (frame : Li
   byQuantity : Read unit (720 + (f + 1)) k frame → ReadsRecord unit requested f k frame
   byRequested : (q : ℕ) → getD requested f 0 ≡ k → Read unit (700 + (f + 1)) q frame → ReadsRecord unit requested f k frame
 
--- such a poll over state s and archive memory m, with k one of 1..n, a live table of 1,424 bytes and a reply buffer that is not under 256,
--- and its outcome
-pub record RecordPolled (unit : ℕ) (s : State) (m : List ℕ) (f k : ℕ) (buffer : List ℕ) (o : Outcome) : Type 0 where
+-- such a poll over state s and archive memory m, with a live table of 1,424 bytes and a reply buffer that is not under 256, and its outcome
+pub record NumberPolled (unit : ℕ) (s : State) (m : List ℕ) (f k : ℕ) (buffer : List ℕ) (o : Outcome) : Type 0 where
   pub table : List ℕ
   pub frame : List ℕ
   pub asks : ReadsRecord unit (s .line .requested) f k frame
-  pub first : 1 ≤ k
-  pub last : k ≤ limitOf (laidOut s) f
   pub whole : length table ≡ tableBytes
   pub room : leastBuffer ≤ length buffer
   pub state : State
   pub memory : List ℕ
   pub met : Meets s m (poll table frame buffer) o state memory
+
+-- with k one of 1..n
+pub record RecordPolled (unit : ℕ) (s : State) (m : List ℕ) (f k : ℕ) (buffer : List ℕ) (o : Outcome) : Type 0 where
+  pub by : NumberPolled unit s m f k buffer o
+  pub first : 1 ≤ k
+  pub last : k ≤ limitOf (laidOut s) f
 
 -- it is done, with the reply's length, and the reply at the start of the buffer, the rest as lent
 abbrev pub repliedWith : List ℕ → List ℕ → Outcome
@@ -106,6 +117,26 @@ repliedWith buffer reply = replied doneNo (length reply) (pasted buffer 0 reply)
 -- after any list, for every file, the alarm file too
 abbrev pub SameBytes : Type 0
 SameBytes =
-    (dayFirst : Bool) (unit : ℕ) (m₀ : List ℕ) (cs : List Call) (os : List Outcome) (s : State) (m : List ℕ) →
-    Ran dayFirst unit m₀ cs os s m → (f : ℕ) → f < allFiles → (k : ℕ) (buffer : List ℕ) (o : Outcome) → RecordPolled unit s m f k buffer o →
+    (dayFirst : Bool) (unit firmware : ℕ) (m₀ : List ℕ) (cs : List Call) (os : List Outcome) (s : State) (m : List ℕ) →
+    Ran dayFirst unit firmware m₀ cs os s m → (f : ℕ) → f < allFiles → (k : ℕ) (buffer : List ℕ) (o : Outcome) → RecordPolled unit s m f k buffer o →
     o ≡ repliedWith buffer (readReply unit (recordBytes s m f k))
+
+-- ---- with a number that is not 1..n it replies with exception 03
+abbrev pub PastTheEnd : Type 0
+PastTheEnd =
+    (dayFirst : Bool) (unit firmware : ℕ) (m₀ : List ℕ) (cs : List Call) (os : List Outcome) (s : State) (m : List ℕ) →
+    Ran dayFirst unit firmware m₀ cs os s m → (f : ℕ) → f < allFiles → (k : ℕ) → within 1 (limitOf (laidOut s) f) k ≡ false →
+    (buffer : List ℕ) (o : Outcome) → NumberPolled unit s m f k buffer o → o ≡ repliedWith buffer (exceptionReply unit 3 illegalValue)
+
+-- so that a driver made for the older firmware, 73, finds the end of the alarm file after any list: it reads record 150, and 151 is refused
+-- (document 02, L8)
+pub record FindsTheEnd (unit : ℕ) (s : State) (m : List ℕ) : Type 0 where
+  pub last : (buffer : List ℕ) (o : Outcome) → NumberPolled unit s m alarmFile 150 buffer o →
+      o ≡ repliedWith buffer (readReply unit (recordBytes s m alarmFile 150))
+  pub past : (buffer : List ℕ) (o : Outcome) → NumberPolled unit s m alarmFile 151 buffer o →
+      o ≡ repliedWith buffer (exceptionReply unit 3 illegalValue)
+
+abbrev pub OldDriver : Type 0
+OldDriver =
+    (dayFirst : Bool) (unit : ℕ) (m₀ : List ℕ) (cs : List Call) (os : List Outcome) (s : State) (m : List ℕ) →
+    Ran dayFirst unit olderFirmware m₀ cs os s m → FindsTheEnd unit s m

@@ -46,11 +46,11 @@ pub data Runs : State → List ℕ → List Call → List Outcome → State → 
   next : {s s′ s″ : State} {m m′ m″ : List ℕ} {c : Call} {o : Outcome} {cs : List Call} {os : List Outcome} →
       Meets s m c o s′ m′ → Runs s′ m′ cs os s″ m″ → Runs s m (c ∷ cs) (o ∷ os) s″ m″
 
--- a list of calls that ran from what an accepted Fresh over memory m₀ left
-pub record Ran (dayFirst : Bool) (unit : ℕ) (m₀ : List ℕ) (cs : List Call) (os : List Outcome) (s : State) (m : List ℕ) : Type 0 where
+-- a list of calls that ran from what an accepted Fresh over memory m₀ left, for either firmware
+pub record Ran (dayFirst : Bool) (unit firmware : ℕ) (m₀ : List ℕ) (cs : List Call) (os : List Outcome) (s : State) (m : List ℕ) : Type 0 where
   pub began : Answer
   pub zeroed : List ℕ
-  pub made : MadeFresh dayFirst unit m₀ began zeroed
+  pub made : MadeFresh dayFirst unit firmware m₀ began zeroed
   pub taken : began .number ≡ doneNo
   pub runs : Runs (began .state) zeroed cs os s m
 
@@ -62,12 +62,12 @@ pub record Follows (M : Machine) (cs : List Call) (os : List Outcome) (s : State
 
 abbrev pub Demand3 : Type 0
 Demand3 =
-    (dayFirst : Bool) (unit : ℕ) (m₀ : List ℕ) (cs : List Call) (os : List Outcome) (s : State) (m : List ℕ) →
-    Ran dayFirst unit m₀ cs os s m → Follows (fresh dayFirst unit (length m₀)) cs os s m
+    (dayFirst : Bool) (unit firmware : ℕ) (m₀ : List ℕ) (cs : List Call) (os : List Outcome) (s : State) (m : List ℕ) →
+    Ran dayFirst unit firmware m₀ cs os s m → Follows (fresh dayFirst unit firmware (length m₀)) cs os s m
 
 -- Fresh begins a list and is no call of one. Accepted or refused, it answers what the machine's card says; that a refused one hands back a
 -- state of zeros and leaves memory is its contract, `MadeFresh`
 abbrev pub FreshAnswers : Type 0
 FreshAnswers =
-    (dayFirst : Bool) (unit : ℕ) (m₀ : List ℕ) (r : Answer) (m₁ : List ℕ) → MadeFresh dayFirst unit m₀ r m₁ →
-    card (r .number) (r .carried) ≡ freshCard unit (length m₀)
+    (dayFirst : Bool) (unit firmware : ℕ) (m₀ : List ℕ) (r : Answer) (m₁ : List ℕ) → MadeFresh dayFirst unit firmware m₀ r m₁ →
+    card (r .number) (r .carried) ≡ freshCard unit firmware (length m₀)

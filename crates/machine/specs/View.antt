@@ -23,7 +23,7 @@ pointersOf l lists = tabulate allFiles (pointerOf l lists)
 
 unfoldable pub stateOf : Machine → State
 stateOf m = record {
-  site = record { «archive_length» = m .site .archiveLength; unit = m .site .unit; «day_first» = m .site .dayFirst; reserved = 0 };
+  site = record { «archive_length» = m .site .archiveLength; unit = m .site .unit; «day_first» = m .site .dayFirst; firmware = m .site .firmware };
   flags = record { running = m .flags .running; unlocked = m .flags .unlocked; pending = m .flags .pending };
   seen = seenOf (m .seen);
   files = record { layout = m .files .laidOut; pointers = pointersOf (layout m) (m .files .lists) };

@@ -1,12 +1,13 @@
 -- A state that is not refused, clause by clause of row 2 of the service card. Assumes nothing.
 --     valid-split, valid-join    a valid state, and its clauses
+--     site-split, site-join      a valid site: its unit and its firmware
 --     state-taken, state-takes   neither Memory (1) nor Foreign (2) applies
 --     state-other, state-foreign    one of them does
---     files-fail, rest-valid    the parts of validity that the code judges one by one
+--     files-judged, files-fail, rest-valid    the parts of validity that the code judges one by one
 --     files-good                 what valid files give
 --     within-split, within-join  numbers within their limits, one by one
 --     all-same                   two lists of one length whose numbers are all the same
-use mathlib.Core.Path.{_≡_, refl, ap, _∙_}
+use mathlib.Core.Path.{_≡_, refl, ap₂, _∙_}
 use mathlib.Core.List.{List}
 use mathlib.Core.Bool.{Bool, true, false, cond, not, _&&_}
 use Prim.Native.Nat.{ℕ, _≤_, _<_}
@@ -15,14 +16,16 @@ use borrow.Author.Tests.{eqb-true, eq-eqb, ne-eqb, leb-true, le-leb}
 use lib.Dec.{eqb, leb}
 use lib.ListN.{length, getD}
 use lib.Seq.{ext-getD}
-use Rattle.basics.specs.Numbers.{within}
 use Rattle.basics.proofs.Tests.{and-left, and-right}
-use Rattle.archive.specs.Layout.{Layout, every, goodFiles, hasRoom, limitOf, allFiles}
+use Rattle.modbus.specs.Frame.{goodUnit}
+use Rattle.archive.specs.Layout.{Layout, layoutOf, every, goodFiles, hasRoom, limitOf, allFiles}
 use Rattle.archive.specs.Alarms.{goodSlots}
 use Rattle.archive.proofs.Layouts.{every-at, every-all}
+use Rattle.state.specs.declared.parts.Site.{Site}
 use Rattle.state.specs.declared.parts.State.{State}
-use Rattle.state.specs.State.{laidOut}
-use Rattle.state.specs.Validity.{flagsValid, goodTriggers, settingsValid, withinLimits, filesValid, valid, stateNumber}
+use Rattle.state.specs.Firmware.{goodFirmware}
+use Rattle.state.specs.State.{depthOf, laidOut}
+use Rattle.state.specs.Validity.{flagsValid, goodTriggers, settingsValid, withinLimits, filesValid, siteValid, valid, stateNumber}
 
 -- ---- a valid state
 pub record Clauses (s : State) : Type 0 where
@@ -34,7 +37,7 @@ pub record Clauses (s : State) : Type 0 where
   pub room : hasRoom (laidOut s) (s .site .«archive_length») ≡ true
   pub pointers : withinLimits (s .files .pointers) (laidOut s) ≡ true
   pub requested : withinLimits (s .line .requested) (laidOut s) ≡ true
-  pub unit : within 1 247 (s .site .unit) ≡ true
+  pub site : siteValid (s .site) ≡ true
 
 both : (a b : Bool) → (a && b) ≡ true → (a ≡ true) × (b ≡ true)
 both a b h = (and-left a b h, and-right a b h)
@@ -60,13 +63,21 @@ valid-split s v =
       room = room .0;
       pointers = numbers .0;
       requested = numbers .1;
-      unit = three .1;
+      site = three .1;
     }
 
 pub valid-join : (s : State) → Clauses s → valid s ≡ true
 unfolding valid settingsValid filesValid
 valid-join s k =
-    simp (k .flags, k .drafts, k .triggers, k .slots, k .laid, k .room, k .pointers, k .requested, k .unit)
+    simp (k .flags, k .drafts, k .triggers, k .slots, k .laid, k .room, k .pointers, k .requested, k .site)
+
+pub site-split : (site : Site) → siteValid site ≡ true → (goodUnit (site .unit) ≡ true) × (goodFirmware (site .firmware) ≡ true)
+unfolding siteValid
+site-split site v = both (goodUnit (site .unit)) (goodFirmware (site .firmware)) v
+
+pub site-join : (site : Site) → goodUnit (site .unit) ≡ true → goodFirmware (site .firmware) ≡ true → siteValid site ≡ true
+unfolding siteValid
+site-join site unit firmware = simp (unit, firmware)
 
 -- ---- a state that is not refused
 pub state-taken : (s : State) (size : ℕ) → stateNumber s size ≡ 0 → (size ≡ s .site .«archive_length») × (valid s ≡ true)
@@ -100,16 +111,22 @@ module _ (s : State) where
   abbrev files : Bool
   files = filesValid (laidOut s) (s .site .«archive_length») (s .files .pointers) (s .line .requested)
 
+  -- the depth and the length of memory that the code judges them by are the state's
+  pub files-judged : (depth size : ℕ) (good : Bool) → depth ≡ depthOf (s .site) → size ≡ s .site .«archive_length» →
+      good ≡ filesValid (layoutOf (s .files .layout) depth) size (s .files .pointers) (s .line .requested) → good ≡ files
+  files-judged depth size good deep same judged =
+      judged ∙ ap₂ (λ d n. filesValid (layoutOf (s .files .layout) d) n (s .files .pointers) (s .line .requested)) deep same
+
   pub files-fail : files ≡ false → valid s ≡ false
   unfolding valid
   files-fail bad = simp (bad, never)
 
   -- where the files are valid, the other parts decide
-  pub rest-valid : files ≡ true → (settings r : Bool) → settings ≡ settingsValid (s .settings) →
-      r ≡ flagsValid (s .flags) && (settings && within 1 247 (s .site .unit)) → r ≡ valid s
+  pub rest-valid : files ≡ true → (settings site r : Bool) → settings ≡ settingsValid (s .settings) → site ≡ siteValid (s .site) →
+      r ≡ flagsValid (s .flags) && (settings && site) → r ≡ valid s
   unfolding valid
-  rest-valid laid settings r settles told =
-      told ∙ ap (λ x. flagsValid (s .flags) && (x && within 1 247 (s .site .unit))) settles ∙ simp laid
+  rest-valid laid settings site r settles lies told =
+      told ∙ ap₂ (λ x y. flagsValid (s .flags) && (x && y)) settles lies ∙ simp laid
 
 pub files-good : (l : Layout) (size : ℕ) (pointers requested : List ℕ) → filesValid l size pointers requested ≡ true → goodFiles (l .groups) ≡ true
 unfolding filesValid

@@ -8,6 +8,7 @@ use Rattle.archive.specs.Layout.{Layout}
 use Rattle.archive.specs.Lent.{SizesOf}
 use Rattle.state.specs.declared.check.StateCheck.{StateCheck}
 use Rattle.state.specs.declared.parts.State.{State}
+use Rattle.state.specs.State.{depthOf}
 use Rattle.state.specs.Validity.{filesValid, stateNumber}
 
 -- files judged: whether they are valid, and if so the bytes of each file's record
@@ -15,7 +16,8 @@ pub record JudgedFiles (l : Layout) (size : ℕ) (pointers requested : List ℕ)
   pub judged : r .good ≡ filesValid l size pointers requested
   pub sized : r .good ≡ true → SizesOf (l .groups) (r .sizes)
 
--- a state checked: its number, and if that is done the bytes of each laid-out file's record
+-- a state checked: its number, and if that is done the bytes of each laid-out file's record and the depth of the alarm file
 pub record Checks (s : State) (size : ℕ) (r : StateCheck) : Type 0 where
   pub number : r .number ≡ stateNumber s size
   pub sized : r .number ≡ 0 → SizesOf (s .files .layout .groups) (r .sizes)
+  pub deep : r .number ≡ 0 → r .depth ≡ depthOf (s .site)

@@ -1,3 +1,4 @@
+pub mod Firmware
 pub mod State
 pub mod Validity
 pub mod Lent

@@ -7,7 +7,7 @@ use Prim.Native.Nat.{ℕ}
 use lib.ListN.{replicate}
 use Rattle.archive.specs.declared.alarms.Slot.{Slot}
 use Rattle.archive.specs.declared.layout.Definitions.{Definitions}
-use Rattle.archive.specs.Layout.{Layout, layoutOf, idleFiles, definedFiles, allFiles, alarmDepth}
+use Rattle.archive.specs.Layout.{Layout, layoutOf, idleFiles, definedFiles, allFiles}
 use Rattle.archive.specs.Alarms.{offSlot, slotCount}
 use Rattle.points.specs.Table.{booleanBytes}
 use Rattle.state.specs.declared.parts.Site.{Site}
@@ -15,11 +15,12 @@ use Rattle.state.specs.declared.parts.Flags.{Flags}
 use Rattle.state.specs.declared.parts.Settings.{Settings}
 use Rattle.state.specs.declared.parts.Files.{Files}
 use Rattle.state.specs.declared.parts.State.{State}
+use Rattle.state.specs.Firmware.{alarmDepth}
 
 -- ---- the layout in force
--- the depth of a site's alarm file
+-- the depth of a site's alarm file, by its firmware (document 02, L8)
 abbrev pub depthOf : Site → ℕ
-depthOf site = alarmDepth
+depthOf site = alarmDepth (site .firmware)
 
 abbrev pub laidOut : State → Layout
 laidOut s = layoutOf (s .files .layout) (depthOf (s .site))
@@ -39,10 +40,10 @@ emptied layout = record { layout = layout; pointers = replicate allFiles 0 }
 abbrev pub freshSettings : Settings
 freshSettings = record { draft = idleFiles; triggers = replicate definedFiles 0; slots = replicate slotCount offSlot }
 
--- `reserved` is no rule of the paper: it fills the site's bytes, is 0, and no call looks at it
-unfoldable pub freshState : Bool → ℕ → ℕ → State
-freshState dayFirst unit size = record {
-  site = record { «archive_length» = size; unit = unit; «day_first» = dayFirst; reserved = 0 };
+-- date order, unit, firmware and archive length are fixed here
+unfoldable pub freshState : Bool → ℕ → ℕ → ℕ → State
+freshState dayFirst unit firmware size = record {
+  site = record { «archive_length» = size; unit = unit; «day_first» = dayFirst; firmware = firmware };
   flags = allOff;
   seen = record { scanned = false; booleans = replicate booleanBytes 0 };
   files = emptied idleFiles;
@@ -50,9 +51,10 @@ freshState dayFirst unit size = record {
   settings = freshSettings;
 }
 
--- what a refused Fresh hands back: its unit is Foreign (2), and over memory of any length but 0 the lower Memory (1) is answered
+-- what a refused Fresh hands back: its unit is Foreign (2), and so is its firmware, and over memory of any length but 0 the lower Memory
+-- (1) is answered
 abbrev pub zeroState : State
-zeroState = freshState false 0 0
+zeroState = freshState false 0 0 0
 
 -- ---- one definition for each change that a call makes
 abbrev pub withFlags : State → Bool → Bool → Bool → State

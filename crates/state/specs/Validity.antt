@@ -9,9 +9,11 @@ use Rattle.modbus.specs.Frame.{goodUnit}
 use Rattle.points.specs.Table.{booleanOrNone}
 use Rattle.archive.specs.Layout.{Layout, every, goodFiles, limitOf, hasRoom, definedFiles, allFiles}
 use Rattle.archive.specs.Alarms.{goodSlots}
+use Rattle.state.specs.declared.parts.Site.{Site}
 use Rattle.state.specs.declared.parts.Flags.{Flags}
 use Rattle.state.specs.declared.parts.Settings.{Settings}
 use Rattle.state.specs.declared.parts.State.{State}
+use Rattle.state.specs.Firmware.{goodFirmware}
 use Rattle.state.specs.State.{laidOut}
 
 -- running and unlocked not both on
@@ -35,12 +37,16 @@ unfoldable pub filesValid : Layout → ℕ → List ℕ → List ℕ → Bool
 filesValid l size pointers requested =
     goodFiles (l .groups) && (hasRoom l size && (withinLimits pointers l && withinLimits requested l))
 
+-- unit 1-247; firmware 73 or 74 (document 02, L8)
+unfoldable pub siteValid : Site → Bool
+siteValid site = goodUnit (site .unit) && goodFirmware (site .firmware)
+
 unfoldable pub valid : State → Bool
 valid s =
     flagsValid (s .flags)
     && (settingsValid (s .settings)
     && (filesValid (laidOut s) (s .site .«archive_length») (s .files .pointers) (s .line .requested)
-    && goodUnit (s .site .unit)))
+    && siteValid (s .site)))
 
 -- Memory (1): archive length not the state's. Foreign (2): a state against the rules above. 0 where neither applies
 unfoldable pub stateNumber : State → ℕ → ℕ

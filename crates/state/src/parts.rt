@@ -3,14 +3,13 @@
 use archive::alarms::Slot;
 use archive::layout::Definitions;
 
-// What Fresh fixes: the archive memory's length, our unit and the date order. `reserved` is 0 from Fresh on; no call
-// looks at it.
+// What Fresh fixes: the archive memory's length, our unit, the date order and the firmware (document 02, L8).
 #[repr(C)]
 pub struct Site {
     pub archive_length: u32,
     pub unit: u8,
     pub day_first: bool,
-    pub reserved: u16,
+    pub firmware: u16,
 }
 
 #[repr(C)]

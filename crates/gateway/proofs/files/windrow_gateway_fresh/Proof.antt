@@ -3,9 +3,8 @@ use mathlib.Core.Path.{ap, ap₂, sym, refl, _∙_}
 use native.Mathlib.Omega.{arith}
 use borrow.Author.Tests.{ne-eqb}
 use lib.ListN.{length}
-use Rattle.basics.proofs.Tests.{within-inside}
-use Rattle.gateway.proofs.Answers.{fresh-parts}
-use Rattle.gateway.specs.Calls.{told, leastMemory, mostMemory, freshNumber, freshAnswer, freshMemory}
+use Rattle.gateway.proofs.Answers.{fresh-fits}
+use Rattle.gateway.specs.Calls.{told, freshNumber, freshAnswer, freshMemory}
 use borrow.Author.Needs.{needs}
 use Rattle.gateway.proofs.files.windrow_gateway_fresh.Statement.{statement}
 use Rattle.gateway.proofs.files.windrow_gateway_fresh.Tie as tie
@@ -22,17 +21,27 @@ tell-requires c κs = search needs
 returns : tie.Need-returns
 unfolding freshAnswer freshMemory
 returns c =
-    let refused = ne-eqb (freshNumber (c .before .before .before .before .before .args .unit) (length (c .before .before .before .before .before .args .archive .now))) 0 (λ none. c .before .before .if1 .taken (c .before .before .before .fresh-number .ensures ∙ none)) in
+    let a = c .before .before .before .before .before .args in
+    let refused = ne-eqb (freshNumber (a .unit) (a .firmware) (length (a .archive .now))) 0 (λ none. c .before .before .if1 .taken (c .before .before .before .fresh-number .ensures ∙ none)) in
     record { answer = c .tell .ensures ∙ ap₂ (λ t n. told t n 0) (c .before .fresh-state .ensures) (c .before .before .before .fresh-number .ensures) ∙ rw refused refl; memory = rw refused refl }
 
 clear-requires : tie.Need-clear-requires
 clear-requires c κs = search needs
 
 cast-fresh-state : tie.Need-cast-fresh-state
-cast-fresh-state c = omega (arith, within-inside 1 247 (c .before .before .before .before .before .before .before .args .unit) (fresh-parts (c .before .before .before .before .before .before .before .args .unit) (length (c .before .before .before .before .before .before .before .args .archive .now)) (sym (c .before .before .before .before .before .fresh-number .ensures) ∙ c .before .before .before .before .if1 .left) .1))
+cast-fresh-state c =
+    let a = c .before .before .before .before .before .before .before .args in
+    omega (arith, fresh-fits (a .unit) (a .firmware) (length (a .archive .now)) (sym (c .before .before .before .before .before .fresh-number .ensures) ∙ c .before .before .before .before .if1 .left) .0)
 
 cast-fresh-state-2 : tie.Need-cast-fresh-state-2
-cast-fresh-state-2 c = omega (arith, within-inside leastMemory mostMemory (length (c .before .before .before .before .before .before .before .args .archive .now)) (fresh-parts (c .before .before .before .before .before .before .before .args .unit) (length (c .before .before .before .before .before .before .before .args .archive .now)) (sym (c .before .before .before .before .before .fresh-number .ensures) ∙ c .before .before .before .before .if1 .left) .0))
+cast-fresh-state-2 c =
+    let a = c .before .before .before .before .before .before .before .args in
+    omega (arith, fresh-fits (a .unit) (a .firmware) (length (a .archive .now)) (sym (c .before .before .before .before .before .fresh-number .ensures) ∙ c .before .before .before .before .if1 .left) .1)
+
+cast-fresh-state-3 : tie.Need-cast-fresh-state-3
+cast-fresh-state-3 c =
+    let a = c .before .before .before .before .before .before .before .args in
+    omega (arith, fresh-fits (a .unit) (a .firmware) (length (a .archive .now)) (sym (c .before .before .before .before .before .fresh-number .ensures) ∙ c .before .before .before .before .if1 .left) .2)
 
 fresh-state-requires-2 : tie.Need-fresh-state-requires-2
 fresh-state-requires-2 c κs = search needs
@@ -60,6 +69,7 @@ windrow-gateway-fresh-spec =
     clear-requires
     cast-fresh-state
     cast-fresh-state-2
+    cast-fresh-state-3
     fresh-state-requires-2
     tell-requires-2
     same-length

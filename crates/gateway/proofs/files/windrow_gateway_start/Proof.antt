@@ -2,11 +2,10 @@
 use mathlib.Core.Path.{ap, sym, _∙_}
 use borrow.Author.Tests.{ne-eqb, not-true, not-false}
 use lib.ListN.{length}
-use Rattle.archive.specs.Layout.{hasRoom}
-use Rattle.state.specs.State.{drafted}
 use Rattle.state.specs.Validity.{stateNumber}
 use Rattle.state.proofs.Clauses.{valid-split, state-taken}
 use Rattle.gateway.proofs.Answers.{refused-first, own-next}
+use Rattle.gateway.proofs.Drafts.{draft-room}
 use Rattle.gateway.specs.Calls.{told, startAnswer, startMemory}
 use borrow.Author.Needs.{needs}
 use Rattle.gateway.proofs.files.windrow_gateway_start.Statement.{statement}
@@ -51,7 +50,8 @@ unfolding startAnswer startMemory
 returns-3 c =
     let none = sym (c .before .before .before .before .before .before .before .before .check .ensures .number) ∙ c .before .before .before .before .before .before .if1 .left in
     let pending = not-false (c .before .before .before .before .before .before .before .before .before .before .args .s .flags .pending) (c .before .before .before .before .before .if2 .left) in
-    let tight = ap (hasRoom (drafted (c .before .before .before .before .before .before .before .before .before .before .args .s))) (sym (state-taken _ _ none .0)) ∙ sym (c .before .before .has-draft-room .ensures) ∙ not-true _ (c .before .if3 .taken) in
+    let deep = c .before .before .before .before .before .before .before .before .check .ensures .deep (c .before .before .before .before .before .before .if1 .left) in
+    let tight = draft-room (c .before .before .before .before .before .before .before .before .before .before .args .s) _ _ _ deep (state-taken _ _ none .0) (c .before .before .has-draft-room .ensures) ∙ not-true _ (c .before .if3 .taken) in
     record { answer = c .tell3 .ensures ∙ simp (pending, tight) (own-next _ _ _ _ (c .before .before .before .before .before .before .before .before .check .ensures .number) (c .before .before .before .before .before .before .if1 .left)); memory = simp (none, pending, tight) }
 
 clear-requires : tie.Need-clear-requires
@@ -71,7 +71,8 @@ unfolding startAnswer startMemory
 returns-4 c =
     let none = sym (c .before .before .before .before .before .before .before .before .before .before .before .before .before .check .ensures .number) ∙ c .before .before .before .before .before .before .before .before .before .before .before .if1 .left in
     let pending = not-false (c .before .before .before .before .before .before .before .before .before .before .before .before .before .before .before .args .s .flags .pending) (c .before .before .before .before .before .before .before .before .before .before .if2 .left) in
-    let room = ap (hasRoom (drafted (c .before .before .before .before .before .before .before .before .before .before .before .before .before .before .before .args .s))) (sym (state-taken _ _ none .0)) ∙ sym (c .before .before .before .before .before .before .before .has-draft-room .ensures) ∙ not-false _ (c .before .before .before .before .before .before .if3 .left) in
+    let deep = c .before .before .before .before .before .before .before .before .before .before .before .before .before .check .ensures .deep (c .before .before .before .before .before .before .before .before .before .before .before .if1 .left) in
+    let room = draft-room (c .before .before .before .before .before .before .before .before .before .before .before .before .before .before .before .args .s) _ _ _ deep (state-taken _ _ none .0) (c .before .before .before .before .before .before .before .has-draft-room .ensures) ∙ not-false _ (c .before .before .before .before .before .before .if3 .left) in
     record {
       answer = c .tell4 .ensures ∙ ap (λ t. told t 0 0) (c .before .restart .ensures) ∙ simp (pending, room) (own-next _ _ _ _ (c .before .before .before .before .before .before .before .before .before .before .before .before .before .check .ensures .number) (c .before .before .before .before .before .before .before .before .before .before .before .if1 .left));
       memory = c .before .before .before .before .clear .ensures ∙ simp (none, pending, room);
