@@ -24,6 +24,8 @@ static const char help[] =
     "clauses that it breaks; the status is then 1.\n"
     "\n"
     "  --file F      only the records of file F, 1-11, as CSV\n"
+    "  --format 1    STATE is one that releases 1 and 2 saved: it names no firmware, and is shown as of 74, which has as many\n"
+    "                alarm records. Without it STATE is of format 2. A STORE names its own format\n"
     "  --help        this page\n";
 
 /* A poll is answered by the library itself, in this program. */
@@ -38,21 +40,21 @@ static size_t exchange(void *self, const uint8_t request[WINDROW_REQUEST_BYTES],
     return number == WINDROW_DONE ? length : 0;
 }
 
-static void load_pair(struct store *store, const char *state_path, const char *archive_path)
+static void load_pair(struct store *store, const char *state_path, const char *archive_path, uint32_t format)
 {
     size_t length;
     uint8_t *bytes = file_bytes(state_path, WINDROW_MOST_ARCHIVE, &length);
     if (length != WINDROW_STATE_BYTES)
         give_up("%s is no state: it has %zu bytes and not %d", state_path, length, WINDROW_STATE_BYTES);
-    if (!windrow_state_from_bytes(&store->state, bytes))
+    if (!state_of_format(&store->state, bytes, format))
         give_up("%s is no state: a bool in it is neither 0 nor 1", state_path);
     free(bytes);
     store->archive = file_bytes(archive_path, WINDROW_MOST_ARCHIVE, &store->archive_length);
     store->scans = 0;
 }
 
-/* Ends the program where the library refuses the state, after telling why. */
-static void want_good(const struct store *store)
+/* Ends the program where the library refuses the state, after telling why. One that is not out of a store tells no format. */
+static void want_good(const struct store *store, bool is_alone)
 {
     struct windrow_state state = store->state;
     uint32_t number = windrow_lock(&state, store->archive, store->archive_length);
@@ -65,6 +67,8 @@ static void want_good(const struct store *store)
     complain("the state is refused: %s:", card_text(text, number));
     if (tell_clauses(stderr, &store->state, store->archive, store->archive_length) == 0)
         fprintf(stderr, "  by several parts together\n");
+    if (is_alone && store->state.site.firmware == 0)
+        fprintf(stderr, "  (a state that releases 1 and 2 saved has firmware 0: --format 1 takes such a one)\n");
     exit(EXIT_TROUBLE);
 }
 
@@ -75,8 +79,8 @@ static const char *on_off(bool on)
 
 static void write_site(const struct windrow_state *state)
 {
-    printf("unit %u, %s dates, archive of %lu bytes\n", state->site.unit, state->site.day_first ? "day-first" : "month-first",
-           (unsigned long)state->site.archive_length);
+    printf("unit %u, %s dates, archive of %lu bytes, firmware %u\n", state->site.unit,
+           state->site.day_first ? "day-first" : "month-first", (unsigned long)state->site.archive_length, state->site.firmware);
     printf("running %s, unlocked %s, pending %s\n", on_off(state->flags.running), on_off(state->flags.unlocked),
            on_off(state->flags.pending));
     if (!state->seen.scanned) {
@@ -222,22 +226,31 @@ static bool write_all(const struct store *store, struct source *source, const st
     return fine;
 }
 
+/* A store, or a state of this format and an archive. */
+static void load(struct store *store, char **words, int plain, const char *format)
+{
+    if (plain != 1 && plain != 2)
+        misused("a store, or a state and an archive, is wanted");
+    if (plain == 1 && format != NULL)
+        misused("--format is for a state and an archive; a store names its own");
+    if (plain == 2)
+        load_pair(store, words[1], words[2],
+                  format == NULL ? WINDROW_STATE_FORMAT : option_whole("--format", format, FIRST_FORMAT, WINDROW_STATE_FORMAT));
+    else if (!store_load(store, words[1]))
+        give_up("there is no store %s", words[1]);
+}
+
 int main(int count, char **words)
 {
     static struct store store;
-    const char *file = NULL;
-    const struct known_option known[] = {{"--file", &file, NULL}, {NULL, NULL, NULL}};
+    const char *file = NULL, *format = NULL;
+    const struct known_option known[] = {{"--file", &file, NULL}, {"--format", &format, NULL}, {NULL, NULL, NULL}};
     const char *const pages[] = {help, NULL};
     report_as("windrow-dump");
     int plain = options_take(count, words, known, pages);
-    if (plain != 1 && plain != 2)
-        misused("a store, or a state and an archive, is wanted");
     uint32_t only = file == NULL ? 0 : option_whole("--file", file, 1, ALL_FILES);
-    if (plain == 2)
-        load_pair(&store, words[1], words[2]);
-    else if (!store_load(&store, words[1]))
-        give_up("there is no store %s", words[1]);
-    want_good(&store);
+    load(&store, words, plain, format);
+    want_good(&store, plain == 2);
     struct source source = {exchange, NULL, &store, store.state.site.unit, store.state.site.day_first, false, 1};
     struct registers registers[ALL_FILES];
     if (!poll_registers(&source, registers))

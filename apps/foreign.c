@@ -12,6 +12,7 @@ struct search {
     const struct windrow_state *state;
     const uint8_t *archive;
     size_t archive_length;
+    uint16_t firmwares[2]; /* by which layout, pointers and requested numbers are judged: its own, or, where that is none, both */
     int found;
 };
 
@@ -30,13 +31,13 @@ __attribute__((format(printf, 3, 4))) static bool clause(struct search *search, 
     return true;
 }
 
-/* The least archive: what a state with no files of its own needs. */
-static uint8_t least_archive[WINDROW_LEAST_ARCHIVE];
+/* What a state with no files of its own needs, of either firmware. */
+static uint8_t least_archive[WINDROW_LEAST_ARCHIVE(WINDROW_FIRMWARE_74)];
 
 static struct windrow_state good_state(void)
 {
     struct windrow_state state;
-    if (windrow_fresh(&state, false, WINDROW_LEAST_UNIT, least_archive, sizeof least_archive) != WINDROW_DONE)
+    if (windrow_fresh(&state, false, WINDROW_LEAST_UNIT, WINDROW_FIRMWARE_74, least_archive, sizeof least_archive) != WINDROW_DONE)
         give_up("a fresh gateway is refused: headers and library do not belong together");
     return state;
 }
@@ -47,7 +48,18 @@ static bool is_foreign(struct windrow_state state)
     return windrow_lock(&state, least_archive, sizeof least_archive) == WINDROW_FOREIGN;
 }
 
-static void look_at_site_and_flags(struct search *search)
+/* Where the firmware is none, what depends on it is told only if neither would do. */
+static void look_at_firmware(struct search *search)
+{
+    struct windrow_state good = good_state();
+    uint16_t firmware = search->state->site.firmware;
+    good.site.firmware = firmware;
+    bool bad = clause(search, is_foreign(good), "firmware %u is neither 73 nor 74", firmware);
+    search->firmwares[0] = bad ? WINDROW_FIRMWARE_73 : firmware;
+    search->firmwares[1] = bad ? WINDROW_FIRMWARE_74 : firmware;
+}
+
+static void look_at_unit_and_flags(struct search *search)
 {
     struct windrow_state good = good_state();
     good.site.unit = search->state->site.unit;
@@ -105,9 +117,15 @@ static struct windrow_state laid_out(const struct search *search)
     return good;
 }
 
+/* The same for a state that is laid out so, by each firmware that the searched one may be of. */
 static bool is_foreign_laid_out(const struct search *search, struct windrow_state state)
 {
-    return windrow_lock(&state, search->archive, search->archive_length) == WINDROW_FOREIGN;
+    for (int i = 0; i < 2; i++) {
+        state.site.firmware = search->firmwares[i];
+        if (windrow_lock(&state, search->archive, search->archive_length) != WINDROW_FOREIGN)
+            return false;
+    }
+    return true;
 }
 
 /* With a good layout that fits: whether a pointer or a requested number is over its file's n. */
@@ -126,8 +144,9 @@ static void look_at_numbers(struct search *search)
 
 int tell_clauses(FILE *out, const struct windrow_state *state, const uint8_t *archive, size_t archive_length)
 {
-    struct search search = {out, state, archive, archive_length, 0};
-    look_at_site_and_flags(&search);
+    struct search search = {out, state, archive, archive_length, {0, 0}, 0};
+    look_at_unit_and_flags(&search);
+    look_at_firmware(&search);
     bool good_layout = look_at_definitions(&search);
     look_at_triggers_and_slots(&search);
     if (good_layout

@@ -21,6 +21,8 @@ static const char help[] =
     "HEX are the frame's bytes in hexadecimal, with spaces, commas, colons or 0x between them or nothing: 11 03 02D1 0001 D71B\n"
     "\n"
     "  --settings FILE   a gateway's settings: says what it answers to a request, as long as nothing is captured or requested\n"
+    "  --firmware N      the gateway's firmware, 73 or 74, instead of the settings' line; without settings it says what every\n"
+    "                    gateway of that firmware answers, also of the alarm file, which has 150 records or 500\n"
     "  --file F          the frame is a reply with a record of file F, 1-11, or with its stamp: takes it apart by the settings\n"
     "  --live POINT      the frame is a reply with live points from POINT on: takes it apart. Of flags, which come eight to a\n"
     "                    byte, the last ones may not have been asked for\n"
@@ -282,47 +284,78 @@ static bool explain(const struct frame *frame)
     return tell_function(frame) && right;
 }
 
+/* The new gateway that a request is handed to. */
+struct asked {
+    const struct settings *settings; /* null where there are none: then it has no files, and the request's unit */
+    bool has_firmware;               /* the option says which */
+    uint32_t firmware;               /* of one without settings */
+};
+
+/* Whether a request reads or requests a record of the alarm file by its number. Of that file nothing but the firmware decides. */
+static bool is_of_alarm(uint8_t function, unsigned address)
+{
+    return (function == WINDROW_READ
+            && (address == WINDROW_NUMBERED_RECORD + WINDROW_ALARM_FILE || address == WINDROW_NUMBERED_STAMP + WINDROW_ALARM_FILE))
+           || (function == WINDROW_WRITE && address == WINDROW_REQUESTED_REGISTER(WINDROW_ALARM_FILE));
+}
+
 /*
  * Whether every gateway answers a request like this, with as many bytes or the same exception: registers, live points, and what
- * none knows. Records depend on its files.
+ * none knows; where the firmware is given, the alarm file too. Other records depend on a gateway's files.
  */
-static bool is_answered_alike(const struct frame *frame, uint32_t exception)
+static bool is_answered_alike(const struct frame *frame, uint32_t exception, bool has_firmware)
 {
     unsigned address = windrow_get_bytes(&frame->bytes[2], 2);
     return exception == WINDROW_ILLEGAL_FUNCTION || exception == WINDROW_ILLEGAL_ADDRESS
            || windrow_row_of(address).kind != WINDROW_NONE
-           || (frame->bytes[1] == WINDROW_READ && address >= WINDROW_FIRST_REGISTER && address <= WINDROW_LAST_REGISTER);
+           || (frame->bytes[1] == WINDROW_READ && address >= WINDROW_FIRST_REGISTER && address <= WINDROW_LAST_REGISTER)
+           || (has_firmware && is_of_alarm(frame->bytes[1], address));
 }
 
-/* Hands a request to a new gateway, one of the settings where there are any, and says what it answers. */
-static void tell_answer(const struct frame *frame, const struct settings *settings)
+/* Makes the gateway; false where none has this unit. */
+static bool make_gateway(struct store *store, const struct asked *asked, uint8_t unit)
 {
-    static uint8_t least[WINDROW_LEAST_ARCHIVE];
+    static uint8_t least[WINDROW_LEAST_ARCHIVE(WINDROW_FIRMWARE_74)];
+    if (asked->settings != NULL) {
+        setup_fresh(store, asked->settings);
+        return true;
+    }
+    store->archive = least;
+    store->archive_length = sizeof least;
+    return windrow_fresh(&store->state, false, unit, asked->firmware, least, sizeof least) == WINDROW_DONE;
+}
+
+static void tell_gateway(const struct asked *asked)
+{
+    printf("%s", asked->settings != NULL ? "this gateway" : "a gateway");
+    if (asked->settings == NULL && asked->has_firmware)
+        printf(" of firmware %lu", (unsigned long)asked->firmware);
+}
+
+/* Hands a request to a new gateway and says what it answers. */
+static void tell_answer(const struct frame *frame, const struct asked *asked)
+{
     static const uint8_t table[WINDROW_TABLE_BYTES]; /* how long an answer is does not depend on what live points hold */
-    struct store store = {.archive = least, .archive_length = sizeof least};
+    struct store store;
     uint8_t reply[WINDROW_LEAST_REPLY];
     uint32_t length = 0;
-    if (settings != NULL)
-        setup_fresh(&store, settings);
-    else if (windrow_fresh(&store.state, false, frame->bytes[0], least, sizeof least) != WINDROW_DONE)
-        return; /* no gateway has this unit */
+    if (!make_gateway(&store, asked, frame->bytes[0]))
+        return;
     struct windrow_state before = store.state;
     uint32_t number = windrow_poll(&store.state, store.archive, store.archive_length, table, sizeof table, frame->bytes,
                                    frame->length, reply, sizeof reply, &length);
-    if (settings != NULL)
+    if (asked->settings != NULL)
         free(store.archive);
-    if (number != WINDROW_DONE)
-        return;
     uint32_t exception = windrow_reply_exception(reply, length);
-    const char *who = settings != NULL ? "this gateway" : "a gateway";
-    if (settings == NULL && !is_answered_alike(frame, exception))
+    if (number != WINDROW_DONE || (asked->settings == NULL && !is_answered_alike(frame, exception, asked->has_firmware)))
         return;
+    tell_gateway(asked);
     if (length == 0)
-        printf("%s does not answer it%s\n", who, memcmp(&before, &store.state, sizeof before) != 0 ? ", but does it" : "");
+        printf(" does not answer it%s\n", memcmp(&before, &store.state, sizeof before) != 0 ? ", but does it" : "");
     else if (exception != 0)
-        printf("%s answers it with exception %lu, %s\n", who, (unsigned long)exception, windrow_exception_word(exception));
+        printf(" answers it with exception %lu, %s\n", (unsigned long)exception, windrow_exception_word(exception));
     else
-        printf("%s answers it with %lu bytes\n", who, (unsigned long)length);
+        printf(" answers it with %lu bytes\n", (unsigned long)length);
 }
 
 /* A point of the live table. */
@@ -338,9 +371,9 @@ int main(int count, char **words)
 {
     static struct frame frame;
     static struct settings settings;
-    const char *path = NULL, *number = NULL, *point = NULL;
-    const struct known_option known[] = {
-        {"--settings", &path, NULL}, {"--file", &number, NULL}, {"--live", &point, NULL}, {NULL, NULL, NULL}};
+    const char *path = NULL, *number = NULL, *point = NULL, *firmware = NULL;
+    const struct known_option known[] = {{"--settings", &path, NULL}, {"--file", &number, NULL}, {"--live", &point, NULL},
+                                         {FIRMWARE_OPTION, &firmware, NULL}, {NULL, NULL, NULL}};
     const char *const pages[] = {help, settings_help, NULL};
     report_as("windrow-frame");
     int plain = options_take(count, words, known, pages);
@@ -354,11 +387,14 @@ int main(int count, char **words)
         misused("a reply has a record or live points, not both");
     for (int i = 1; i <= plain; i++)
         take_hex(&frame, words[i]);
+    struct asked asked = {path == NULL ? NULL : &settings, firmware != NULL,
+                          firmware == NULL ? WINDROW_FIRMWARE_74 : option_firmware(firmware)};
+    setup_judge_firmware(asked.firmware, FIRMWARE_OPTION);
     if (path != NULL)
-        settings_read(&settings, path);
+        settings_read(&settings, path, firmware);
     bool fine = explain(&frame);
     if (fine && frame.length == WINDROW_REQUEST_BYTES && (frame.bytes[1] & 0x80) == 0 && file == 0 && first == 0)
-        tell_answer(&frame, path != NULL ? &settings : NULL);
+        tell_answer(&frame, &asked);
     if (file != 0)
         fine = tell_record(&frame, &settings, file) && fine;
     if (first != 0)

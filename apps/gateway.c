@@ -26,6 +26,8 @@ static const char help[] =
     "  --link PATH       a symbolic link to that pseudo-terminal, as long as the gateway runs\n"
     "  --store FILE      keeps state and archive there, and goes on from it; it outlives kill -9\n"
     "  --redefine        lays a store out anew where the settings define other files, which empties every file\n"
+    "  --firmware N      73 or 74, instead of the settings' line: the alarm file has 150 records or 500. A store keeps the\n"
+    "                    firmware that it was made with, and is refused with another; one of before version 3.0 is of 74\n"
     "  --trace FILE      the stamps and live tables of a recorded trace, instead of the simulated yard: a record a scan,\n"
     "                    each month, day, year, hour, minute, second (a byte each) and the 1,424 bytes of the table\n"
     "  --record FILE     writes each scan's stamp and table there, as a trace\n"
@@ -40,7 +42,7 @@ static const char help[] =
     "\n";
 
 struct options {
-    const char *settings, *device, *link, *store, *trace, *record;
+    const char *settings, *firmware, *device, *link, *store, *trace, *record;
     bool redefine, hold;
     double speed;
     uint32_t scans;
@@ -71,12 +73,12 @@ static void interrupt(int signal)
 static struct options parse(int count, char **words)
 {
     const char *speed = "1", *scans = "4294967294";
-    struct options o = {NULL, NULL, NULL, NULL, NULL, NULL, false, false, 0, 0};
+    struct options o = {NULL, NULL, NULL, NULL, NULL, NULL, NULL, false, false, 0, 0};
     const struct known_option known[] = {
         {"--device", &o.device, NULL}, {"--link", &o.link, NULL},     {"--store", &o.store, NULL},
         {"--trace", &o.trace, NULL},   {"--record", &o.record, NULL}, {"--speed", &speed, NULL},
         {"--scans", &scans, NULL},     {"--hold", NULL, &o.hold},     {"--redefine", NULL, &o.redefine},
-        {NULL, NULL, NULL},
+        {FIRMWARE_OPTION, &o.firmware, NULL}, {NULL, NULL, NULL},
     };
     const char *const pages[] = {help, settings_help, yard_help, NULL};
     if (options_take(count, words, known, pages) != 1)
@@ -275,7 +277,7 @@ int main(int count, char **words)
     want_apart(host.options.record, host.options.settings, "settings");
     want_apart(host.options.record, host.options.store, "store");
     want_apart(host.options.record, host.options.trace, "trace");
-    settings_read(&host.settings, host.options.settings);
+    settings_read(&host.settings, host.options.settings, host.options.firmware);
     if (host.options.store != NULL)
         store_lock(host.options.store);
     if (host.options.store == NULL || !store_load(&host.store, host.options.store))

@@ -59,3 +59,8 @@ uint32_t option_whole(const char *name, const char *text, uint32_t least, uint32
         misused("%s takes a whole number, not `%s`", name, text);
     return (uint32_t)value;
 }
+
+uint32_t option_firmware(const char *text)
+{
+    return option_whole(FIRMWARE_OPTION, text, 0, UINT32_MAX);
+}

@@ -24,4 +24,8 @@ double option_number(const char *name, const char *text, double least, double mo
 /* The same for a whole number. */
 uint32_t option_whole(const char *name, const char *text, uint32_t least, uint32_t most);
 
+/* The option of several programs that names a gateway's firmware. Any number is taken: which are good is for the library to say. */
+#define FIRMWARE_OPTION "--firmware"
+uint32_t option_firmware(const char *text);
+
 #endif

@@ -27,7 +27,8 @@ static const char help[] =
     "Texts are written as they come, but without the zeros at the end, and a backslash and what is no printable ASCII as\n"
     "\\xHH. Since 2.2 gateways have ? for a byte that is neither 00 nor 20 to 7E hex, when they capture and when live points\n"
     "are polled; records of before stay as they were filed.\n"
-    "SETTINGS are the gateway's own: unit, date order, the files' groups, speed and parity of the line.\n"
+    "SETTINGS are the gateway's own: unit, date order, the files' groups, speed and parity of the line. Their firmware is not\n"
+    "looked at: how many records the alarm file has, 150 or 500, the gateway says.\n"
     "\n"
     "  --live        points of the live table instead of files, a line each: point, kind and value. FIRST-LAST are points\n"
     "                of one row of it; up to 64 such words are taken. Without any, all 432 are read, by 11 polls, each of which\n"
@@ -436,7 +437,7 @@ static void parse(struct reader *reader, int count, char **words)
     reader->every_ms = (int)option_whole("--every", every, 1, 3600000);
     reader->wait_ms = (int)option_whole("--wait", wait, 1, 3600000);
     reader->source.tries = (int)option_whole("--tries", tries, 1, 100);
-    settings_read(&reader->settings, words[2]);
+    settings_read(&reader->settings, words[2], NULL);
     take_words(reader, words, 3, plain);
     if (reader->settings.unit < WINDROW_LEAST_UNIT || reader->settings.unit > WINDROW_MOST_UNIT)
         give_up("%s: unit %lu is not 1-247", words[2], (unsigned long)reader->settings.unit);

@@ -6,6 +6,7 @@
 #include <string.h>
 
 #include "calendar.h"
+#include "options.h"
 #include "report.h"
 
 const char settings_help[] =
@@ -13,7 +14,9 @@ const char settings_help[] =
     "that have one value, the one shown here holds where nothing is said.\n"
     "  unit 17                     the gateway's Modbus unit, 1-247\n"
     "  dates month-first           or day-first: the order of a stamp's first two bytes\n"
-    "  archive 65536               bytes of archive memory, 11,000 to 1,048,576\n"
+    "  firmware 74                 or 73: the alarm file has 500 records or 150; 73 is for a site whose drivers were made\n"
+    "                              for that firmware and read past record 150\n"
+    "  archive 65536               bytes of archive memory, 11,000 (firmware 73: 3,300) to 1,048,576\n"
     "  file 1 96 7101:3 5101:3     file 1-10, the most records, its groups: first point and number of points\n"
     "                              (0:0 is an unused place)\n"
     "  trigger 1 1801              the flag whose rise captures a record of file 1; 0 for none\n"
@@ -150,6 +153,15 @@ static void take_parity(const struct line *line)
     bad_line(line, "parity is even, odd or none", line->words[1]);
 }
 
+/* Which numbers are a firmware is for the library to judge. Where the option gives one, the line is only read. */
+static void take_firmware(const struct line *line)
+{
+    struct settings *settings = line->settings;
+    uint32_t firmware = number(line, line->words[1], 0, UINT32_MAX);
+    if (settings->firmware_by == settings->path)
+        settings->firmware = firmware;
+}
+
 static void take_dates(const struct line *line)
 {
     line->settings->day_first = strcmp(line->words[1], "day-first") == 0;
@@ -165,6 +177,8 @@ static void take_value(const struct line *line)
     want_words(line, 2);
     if (strcmp(name, "unit") == 0)
         settings->unit = number(line, line->words[1], 0, UINT32_MAX);
+    else if (strcmp(name, "firmware") == 0)
+        take_firmware(line);
     else if (strcmp(name, "dates") == 0)
         take_dates(line);
     else if (strcmp(name, "archive") == 0)
@@ -182,7 +196,7 @@ static void take_value(const struct line *line)
 }
 
 /* Each setting of one value may stand once. */
-static const char *const single[] = {"unit", "dates", "archive", "begin", "scan", "baud", "parity", "gap"};
+static const char *const single[] = {"unit", "firmware", "dates", "archive", "begin", "scan", "baud", "parity", "gap"};
 #define SINGLES (sizeof single / sizeof single[0])
 
 static void take_line(const struct line *line, bool taken[SINGLES])
@@ -226,12 +240,14 @@ static void split(struct line *line, char *text)
     }
 }
 
-/* What holds where the file says nothing. */
-static void begin_settings(struct settings *settings, const char *path)
+/* What holds where the file says nothing, and the firmware of the option, if there is one. */
+static void begin_settings(struct settings *settings, const char *path, const char *firmware)
 {
     static const struct windrow_stamp first_of_may = {5, 1, 26, 6, 0, 0};
     memset(settings, 0, sizeof *settings);
     settings->path = path;
+    settings->firmware = firmware == NULL ? WINDROW_FIRMWARE_74 : option_firmware(firmware);
+    settings->firmware_by = firmware == NULL ? path : FIRMWARE_OPTION;
     settings->archive_length = 65536;
     settings->begin = first_of_may;
     settings->scan_seconds = 600;
@@ -251,12 +267,12 @@ static bool is_text(const char *text, bool is_last)
     return true;
 }
 
-void settings_read(struct settings *settings, const char *path)
+void settings_read(struct settings *settings, const char *path, const char *firmware)
 {
+    begin_settings(settings, path, firmware);
     FILE *file = fopen(path, "r");
     if (file == NULL)
         give_up("the settings %s can't be read: %s", path, strerror(errno));
-    begin_settings(settings, path);
     bool taken[SINGLES] = {false};
     char text[LONGEST_LINE];
     struct line line = {settings, 0, {NULL}, 0};

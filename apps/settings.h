@@ -28,6 +28,8 @@ enum parity { PARITY_EVEN, PARITY_ODD, PARITY_NONE };
 struct settings {
     const char *path;
     uint32_t unit;
+    uint32_t firmware;
+    const char *firmware_by; /* what says so, for messages: the path, or the option --firmware */
     bool day_first;
     size_t archive_length;
     uint16_t groups[WINDROW_FILES][WINDROW_GROUP_NUMBERS]; /* file f has index f - 1 */
@@ -45,7 +47,10 @@ struct settings {
 /* What a settings file may say, a line each; programs print it with --help. */
 extern const char settings_help[];
 
-/* Reads a settings file; where it can't be read or taken, says so with file and line and ends the program. */
-void settings_read(struct settings *settings, const char *path);
+/*
+ * Reads a settings file; where it can't be read or taken, says so with file and line and ends the program. `firmware` is the value
+ * of the program's option --firmware, which holds instead of what the file says, or null; that it is no number is told first.
+ */
+void settings_read(struct settings *settings, const char *path, const char *firmware);
 
 #endif

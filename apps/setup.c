@@ -55,7 +55,7 @@ static void forget_changes(struct store *store)
 /* What the files, whose groups are good, and the alarm file take of the archive. */
 static size_t bytes_needed(const struct settings *settings)
 {
-    size_t bytes = (size_t)WINDROW_ALARM_RECORDS * WINDROW_ALARM_BYTES;
+    size_t bytes = WINDROW_LEAST_ARCHIVE(settings->firmware);
     for (int i = 0; i < WINDROW_FILES; i++)
         bytes += settings->limits[i] * windrow_record_bytes(settings->groups[i]);
     return bytes;
@@ -85,17 +85,29 @@ static void lay_out(struct store *store, const struct settings *settings)
         setup_refused("start", number);
 }
 
+/* Fresh judges the firmware before the memory: over none at all a good one gets as far as Memory (1). */
+void setup_judge_firmware(uint32_t firmware, const char *by)
+{
+    struct windrow_state state;
+    uint8_t none;
+    if (windrow_fresh(&state, false, WINDROW_LEAST_UNIT, firmware, &none, 0) == WINDROW_FOREIGN)
+        give_up("%s: firmware %lu is refused: it is neither 73 nor 74 (2 Foreign)", by, (unsigned long)firmware);
+}
+
 void setup_fresh(struct store *store, const struct settings *settings)
 {
+    setup_judge_firmware(settings->firmware, settings->firmware_by);
     store->archive_length = settings->archive_length;
     store->archive = malloc(store->archive_length + 1);
     store->scans = 0;
     if (store->archive == NULL)
         give_up("there is no memory for an archive of %zu bytes", store->archive_length);
-    uint32_t number = windrow_fresh(&store->state, settings->day_first, settings->unit, store->archive, store->archive_length);
+    uint32_t number = windrow_fresh(&store->state, settings->day_first, settings->unit, settings->firmware, store->archive,
+                                    store->archive_length);
+    int least = WINDROW_LEAST_ARCHIVE(settings->firmware);
     if (number == WINDROW_MEMORY)
-        give_up("%s: an archive of %zu bytes is refused: it is not of 11,000 to 1,048,576 (1 Memory)", settings->path,
-                settings->archive_length);
+        give_up("%s: an archive of %zu bytes is refused: it is not of %d,%03d to 1,048,576, as firmware %lu needs it (1 Memory)",
+                settings->path, settings->archive_length, least / 1000, least % 1000, (unsigned long)settings->firmware);
     if (number == WINDROW_FOREIGN)
         give_up("%s: unit %lu is refused: it is not 1-247 (2 Foreign)", settings->path, (unsigned long)settings->unit);
     if (number != WINDROW_DONE)
@@ -115,17 +127,26 @@ static uint32_t first_difference(const struct store *store, const struct setting
     return 0;
 }
 
+/* What fresh has fixed must be the settings'. */
+static void want_same_site(const struct store *store, const struct settings *settings, const char *path)
+{
+    const struct windrow_site *site = &store->state.site;
+    if (site->firmware != settings->firmware)
+        give_up("the store %s is of a gateway with firmware %u, and %s says %lu (74 where nothing is said); it can't be changed",
+                path, site->firmware, settings->firmware_by, (unsigned long)settings->firmware);
+    if (site->unit != settings->unit || site->day_first != settings->day_first || store->archive_length != settings->archive_length)
+        give_up("the store %s is of a gateway with unit %u, %s dates and %zu bytes of archive; %s says otherwise, and these can't"
+                " be changed",
+                path, site->unit, site->day_first ? "day-first" : "month-first", store->archive_length, settings->path);
+}
+
 void setup_again(struct store *store, const struct settings *settings, const char *path, bool redefine)
 {
     uint32_t number = windrow_stop(&store->state, store->archive, store->archive_length);
     char text[CARD_TEXT];
     if (number != WINDROW_DONE)
         give_up("the store %s is refused: %s (windrow-dump %s says more)", path, card_text(text, number), path);
-    const struct windrow_site *site = &store->state.site;
-    if (site->unit != settings->unit || site->day_first != settings->day_first || store->archive_length != settings->archive_length)
-        give_up("the store %s is of a gateway with unit %u, %s dates and %zu bytes of archive; %s says otherwise, and these can't"
-                " be changed",
-                path, site->unit, site->day_first ? "day-first" : "month-first", store->archive_length, settings->path);
+    want_same_site(store, settings, path);
     forget_changes(store);
     make_changes_at_once(store, settings);
     uint32_t other = first_difference(store, settings);

@@ -8,12 +8,15 @@
 #include "settings.h"
 #include "store.h"
 
+/* Ends the program where the library does not take a firmware, which `by` has said: a path, or an option. */
+void setup_judge_firmware(uint32_t firmware, const char *by);
+
 /* A new gateway: memory, definitions, triggers and alarms, and started. */
 void setup_fresh(struct store *store, const struct settings *settings);
 
 /*
- * A gateway out of a store: its unit, date order and memory must be the settings'. Triggers and alarms become those of the
- * settings alone, which empties nothing. Where the settings define other files than it has, it is laid out anew only if
+ * A gateway out of a store: its unit, firmware, date order and memory must be the settings'. Triggers and alarms become those of
+ * the settings alone, which empties nothing. Where the settings define other files than it has, it is laid out anew only if
  * `redefine`, since that empties every file.
  */
 void setup_again(struct store *store, const struct settings *settings, const char *path, bool redefine);

@@ -3,7 +3,8 @@
  * renamed over it, so that whenever the program or the machine dies the file is whole: the old one or the new one.
  *
  * Its bytes: "WINDROW" and a zero, then high byte first the state's format, the state's length and the archive's (4 bytes each)
- * and the scans done so far (4 bytes); state; archive; the CRC of all before (2 bytes, low byte first, as in a frame).
+ * and the scans done so far (4 bytes); state; archive; the CRC of all before (2 bytes, low byte first, as in a frame). One with a
+ * state of format 1, as releases 1 and 2 left it, is taken too; what is put is of this release's format.
  */
 #ifndef STORE_H
 #define STORE_H
@@ -20,6 +21,12 @@ struct store {
     size_t archive_length;
     uint32_t scans; /* of the yard or the trace, so that a gateway that comes back goes on where it was */
 };
+
+/* The format of the states that releases 1 and 2 stored. They name no firmware, and are taken as of 74. */
+#define FIRST_FORMAT 1
+
+/* Takes a state of the first format or of this release's; false where a bool in it is neither 0 nor 1. */
+bool state_of_format(struct windrow_state *state, const uint8_t bytes[WINDROW_STATE_BYTES], uint32_t format);
 
 /* Takes a store from a file; false where there is no such file. Ends the program, and says why, where it is no whole store. */
 bool store_load(struct store *store, const char *path);

@@ -6,8 +6,8 @@
 
 static const char *const meanings[] = {
     [WINDROW_DONE] = "done",
-    [WINDROW_MEMORY] = "archive memory of the wrong length (a fresh gateway takes 11,000 to 1,048,576 bytes)",
-    [WINDROW_FOREIGN] = "a state against the rules, or a unit that is not 1-247",
+    [WINDROW_MEMORY] = "archive memory of the wrong length (fresh takes 11,000 to 1,048,576 bytes, of firmware 73 from 3,300 on)",
+    [WINDROW_FOREIGN] = "a state against the rules, a firmware that is neither 73 nor 74, or a unit that is not 1-247",
     [WINDROW_TABLE] = "a live table that is not 1,424 bytes",
     [WINDROW_CLOCK] = "no such date from 2000 to 2099, or no such time",
     [WINDROW_FILE] = "the file is not 1-10",

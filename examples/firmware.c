@@ -23,14 +23,14 @@ static bool done(const char *call, uint32_t number)
 }
 
 /*
- * Makes a gateway whose file 1 has these groups, and starts it; stops at the first call that is refused. This is for a first
- * start, since fresh sets the archive to zeros: a gateway that has stored its state and archive takes them back
- * (windrow_state_from_bytes) and goes on.
+ * Makes a gateway whose file 1 has these groups, and starts it; stops at the first call that is refused. Its firmware is 74, so
+ * that it keeps 500 alarms. This is for a first start, since fresh sets the archive to zeros: a gateway that has stored its state
+ * and archive takes them back (windrow_state_from_bytes) and goes on.
  */
 static bool begin(const uint16_t groups[WINDROW_GROUP_NUMBERS])
 {
     uint32_t bad_place = 0;
-    bool running = done("fresh", windrow_fresh(&state, false, 17, archive, sizeof archive))
+    bool running = done("fresh", windrow_fresh(&state, false, 17, WINDROW_FIRMWARE_74, archive, sizeof archive))
                    && done("unlock", windrow_unlock(&state, archive, sizeof archive))
                    && done("define", windrow_define(&state, archive, sizeof archive, 1, groups, 96, &bad_place))
                    && done("trigger", windrow_trigger(&state, archive, sizeof archive, 1, TURNER))

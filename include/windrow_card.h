@@ -7,13 +7,18 @@
 
 #include <stdint.h>
 
-/* The number that a call answers. The lowest that applies is answered; where none applies, the call does its work. */
+/*
+ * The number that a call answers. The lowest that applies is answered; where none applies, the call does its work. Fresh alone
+ * answers a 2, that for its firmware, before 1.
+ */
 enum windrow_card {
     WINDROW_DONE = 0,
-    WINDROW_MEMORY = 1,   /* the archive's length is not the state's; fresh: under 11,000 or over 1,048,576 */
+    WINDROW_MEMORY = 1,   /* the archive's length is not the state's; fresh: under 11,000 (firmware 73: under 3,300) or over
+                             1,048,576 */
     WINDROW_FOREIGN = 2,  /* a state in which running and unlocked are both on, a definition, trigger or slot is against its rule,
-                             the layout exceeds the archive, a pointer or requested number is over n, or the unit is not 1-247, as
-                             in the zeros of a refused fresh; fresh: the unit */
+                             the layout exceeds the archive, a pointer or requested number is over n, the unit is not 1-247 or the
+                             firmware neither 73 nor 74, as in the zeros of a refused fresh; fresh: the firmware, before 1 is
+                             looked for, or the unit */
     WINDROW_TABLE = 3,    /* the live table that a scan or a poll is lent is not 1,424 bytes */
     WINDROW_CLOCK = 4,    /* the stamp is no date from 2000 to 2099 or no time: windrow_stamp.h */
     WINDROW_FILE = 5,     /* the file is not 1-10 */

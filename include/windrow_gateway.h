@@ -32,6 +32,11 @@
  * changes nothing; it is lent a live table like any other. The live table is part of neither state nor archive, and is not stored.
  * Running is stored, so that no start is needed at power-up, and so are the Booleans: the first scan then compares with those of
  * before. Where state.flags.pending is on, a start would empty every file.
+ *
+ * States of format 1, as releases 1 and 2 stored them: take the bytes back through windrow_state_from_format_1, and the archive as
+ * it is. Such a gateway goes on with all its records, as one of firmware 74; store it as of format 2 from then on. Make no fresh
+ * one in its place, which would set the archive to zeros. A state with which no format was stored is one of these where its
+ * firmware is 0 and its unit is not.
  */
 #ifndef WINDROW_GATEWAY_H
 #define WINDROW_GATEWAY_H
@@ -56,12 +61,12 @@ extern "C" {
  * checksummed byte by byte. Index 0 is file 1 or slot 1; the eleventh file is the alarm file.
  */
 
-/* What fresh fixes: the archive's length, our unit (1-247) and the date order. */
+/* What fresh fixes: the archive's length, our unit (1-247), the date order and the firmware (73 or 74). */
 struct windrow_site {
     uint32_t archive_length;
     uint8_t unit;
     bool day_first;
-    uint16_t reserved; /* 0 from fresh; it fills the struct, is never judged and is handed on as it is */
+    uint16_t firmware; /* by which the alarm file has 150 or 500 records: WINDROW_ALARM_RECORDS */
 };
 
 struct windrow_flags {
@@ -131,10 +136,21 @@ struct windrow_gateway_answer {
 };
 
 /*
- * A new gateway over 11,000 to 1,048,576 bytes of memory, which are set to zeros: for the first start only, since one that has a
- * stored state takes that back. Refused with 1 or 2, it hands back a state of zeros and leaves the memory alone.
+ * A new gateway over archive memory, which is set to zeros: for the first start only, since one that has a stored state takes that
+ * back. It is refused with the first of these that applies, and then hands back a state of zeros and leaves the memory alone:
+ *
+ *   2 where the firmware is neither WINDROW_FIRMWARE_73 nor WINDROW_FIRMWARE_74; it is judged in 32 bits, so that 329 is not 73
+ *   1 where the memory is not of WINDROW_LEAST_ARCHIVE(firmware), 3,300 or 11,000, to 1,048,576 bytes
+ *   2 where the unit is not 1-247
+ *
+ * The firmware says how many records the alarm file (11) has, 150 for 73 and 500 for 74, and nothing else: the limit in its
+ * register, the numbers that can be read and requested, where it goes round, and the room that is left for files 1-10 follow from
+ * that. Take 74, but 73 for a site whose drivers were made for the older firmware and read past record 150: there 150 is the last,
+ * and a poll of 151 is answered with WINDROW_ILLEGAL_VALUE. Like unit and date order it is fixed here: a stored state keeps it, and
+ * only another fresh, which empties every file, makes a gateway of the other firmware.
  */
-struct windrow_gateway_answer windrow_gateway_fresh(bool day_first, uint32_t unit, uint8_t *archive, size_t archive_length);
+struct windrow_gateway_answer windrow_gateway_fresh(bool day_first, uint32_t unit, uint32_t firmware, uint8_t *archive,
+                                                    size_t archive_length);
 
 /*
  * Unlocked and pending on, so that files can be defined. Refused with 10 while running. There is no way back: lock does not take
@@ -238,10 +254,10 @@ typedef char windrow_state_is_laid_out_as_in_the_library[sizeof(struct windrow_s
  * state is as it was, but for windrow_fresh, which then leaves a state of zeros, and that is Foreign to every other call.
  */
 
-static inline uint32_t windrow_fresh(struct windrow_state *state, bool day_first, uint32_t unit, uint8_t *archive,
-                                     size_t archive_length)
+static inline uint32_t windrow_fresh(struct windrow_state *state, bool day_first, uint32_t unit, uint32_t firmware,
+                                     uint8_t *archive, size_t archive_length)
 {
-    struct windrow_gateway_answer a = windrow_gateway_fresh(day_first, unit, archive, archive_length);
+    struct windrow_gateway_answer a = windrow_gateway_fresh(day_first, unit, firmware, archive, archive_length);
     *state = a.state;
     return a.number;
 }
@@ -322,8 +338,8 @@ static inline uint32_t windrow_poll(struct windrow_state *state, const uint8_t *
 }
 
 /*
- * Takes a stored state back. Answers false, and leaves *state alone, where a byte that is to be a bool is neither 0 nor 1: such
- * bytes were never a state. A state that is taken may still be Foreign; the first call says so.
+ * Takes a stored state of this format back. Answers false, and leaves *state alone, where a byte that is to be a bool is neither 0
+ * nor 1: such bytes were never a state. A state that is taken may still be Foreign; the first call says so.
  */
 static inline bool windrow_state_from_bytes(struct windrow_state *state, const uint8_t bytes[WINDROW_STATE_BYTES])
 {
@@ -338,6 +354,19 @@ static inline bool windrow_state_from_bytes(struct windrow_state *state, const u
         if (bytes[bools[i]] > 1)
             return false;
     memmove(state, bytes, sizeof *state); /* they may be the same memory */
+    return true;
+}
+
+/*
+ * The same for a state of format 1, which releases 1 and 2 stored. Their gateways have 500 alarm records, so that the firmware
+ * becomes 74, whatever the two bytes hold that were reserved there. The archive that was stored with it goes with it as it is. This
+ * is for no other state: one of format 2 and firmware 73 would be misread.
+ */
+static inline bool windrow_state_from_format_1(struct windrow_state *state, const uint8_t bytes[WINDROW_STATE_BYTES])
+{
+    if (!windrow_state_from_bytes(state, bytes))
+        return false;
+    state->site.firmware = WINDROW_FIRMWARE_74;
     return true;
 }
 

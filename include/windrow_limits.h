@@ -19,19 +19,28 @@
 #define WINDROW_FILES 10
 #define WINDROW_ALARM_FILE 11
 #define WINDROW_MOST_RECORDS 65535
-#define WINDROW_ALARM_RECORDS 500
 #define WINDROW_ALARM_SLOTS 32
 
 /*
- * Bytes: the live table, a record's stamp, the longest record with its stamp, an alarm record, a gateway's archive memory. A
- * record is its stamp and then its groups in order (windrow_record_bytes in windrow_points.h); the archive has to hold n records
- * of each file and the alarm file, or a start is refused with WINDROW_ROOM (11).
+ * A gateway's firmware, which is fixed when it is made: both are in use, and there is no other. The alarm file's limit is 150 below
+ * 74 and 500 from 74 on, and nothing else depends on the firmware. A driver that does not know it asks the gateway for the limit:
+ * register WINDROW_LIMIT_REGISTER(WINDROW_ALARM_FILE), 3731. To poll a record past the limit is an exception.
+ */
+#define WINDROW_FIRMWARE_73 73
+#define WINDROW_FIRMWARE_74 74
+#define WINDROW_ALARM_RECORDS(firmware) ((firmware) < WINDROW_FIRMWARE_74 ? 150 : 500)
+
+/*
+ * Bytes: the live table, a record's stamp, the longest record with its stamp, an alarm record, a gateway's archive memory, of which
+ * the least is the alarm file: 3,300 for firmware 73 and 11,000 for 74. A record is its stamp and then its groups in order
+ * (windrow_record_bytes in windrow_points.h); the archive has to hold n records of each file and the alarm file, or a start is
+ * refused with WINDROW_ROOM (11). With a constant firmware, the macros that take one can be an array's size.
  */
 #define WINDROW_TABLE_BYTES 1424
 #define WINDROW_STAMP_BYTES 6
 #define WINDROW_LONGEST_RECORD 250
 #define WINDROW_ALARM_BYTES 22
-#define WINDROW_LEAST_ARCHIVE 11000 /* the alarm file's 500 records of 22 bytes */
+#define WINDROW_LEAST_ARCHIVE(firmware) (WINDROW_ALARM_RECORDS(firmware) * WINDROW_ALARM_BYTES)
 #define WINDROW_MOST_ARCHIVE 1048576
 
 /* A stamp's year counts from here: year 7 is 2007. */

@@ -211,10 +211,11 @@ struct windrow_alarm_answer {
 #define WINDROW_ALARM_GROUPS {3001, 1, 3002, 1, 7101, 1, 5101, 2}
 
 /*
- * The alarm record in a reply to 03 on 711 or 731. Refused with 14 or 15. The newest is the one at the alarm file's pointer. Of one
- * scan's records those with bit 0 (cleared) come first, then those with 1 (raised), each by point, then slot; before 2.1 all went
- * by point, then slot. So the newest has bit 1 where the last scan that logged anything raised anything. A newest one with bit 0
- * does not say that no alarm stands: the flags do (01 on 1801-1928).
+ * The alarm record in a reply to 03 on 711 or 731. Refused with 14 or 15. There are 150 or 500, by the gateway's firmware: the
+ * alarm file's limit register says. The newest is the one at its pointer. Of one scan's records those with bit 0 (cleared) come
+ * first, then those with 1 (raised), each by point, then slot; before 2.1 all went by point, then slot. So the newest has bit 1
+ * where the last scan that logged anything raised anything. A newest one with bit 0 does not say that no alarm stands: the flags
+ * do (01 on 1801-1928).
  */
 static inline struct windrow_alarm_answer windrow_read_alarm(bool day_first, const uint8_t *frame, size_t frame_length)
 {

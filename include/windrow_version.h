@@ -14,13 +14,22 @@
  * 2: windrow_poll and windrow_gateway_poll take the live table too, so that firmware for 1 has to be changed where it polls. A
  * compiler stops one that was not; the linker does not, so link no object that was compiled with headers of 1: most of its polls
  * would be refused with 3 (Table).
+ *
+ * 3: windrow_fresh and windrow_gateway_fresh take the gateway's firmware too, behind the unit, so that programs for 2 have to be
+ * changed where they make a gateway, and where they take a stored state back (below). A compiler stops one whose fresh was not; the
+ * linker does not, so link no object that was compiled with headers of 2: its fresh would be refused with 2 (Foreign), as the
+ * archive's address would be taken for the firmware, and so would every call with a state that it has stored, which names none.
  */
-#define WINDROW_VERSION_MAJOR 2
-#define WINDROW_VERSION_MINOR 2
-#define WINDROW_VERSION_PATCH 1
-#define WINDROW_VERSION "2.2.1"
+#define WINDROW_VERSION_MAJOR 3
+#define WINDROW_VERSION_MINOR 0
+#define WINDROW_VERSION_PATCH 0
+#define WINDROW_VERSION "3.0.0"
 
-/* The format of struct windrow_state as bytes. Store it beside a state, and hand no state of another format to these libraries. */
-#define WINDROW_STATE_FORMAT 1
+/*
+ * The format of struct windrow_state as bytes. Store it beside a state, and hand no state of another format to these libraries but
+ * one of format 1, which releases 1 and 2 stored, through windrow_state_from_format_1 (windrow_gateway.h). A program that makes a
+ * fresh gateway wherever it finds another format than this would lose its archive by the upgrade.
+ */
+#define WINDROW_STATE_FORMAT 2
 
 #endif

@@ -31,6 +31,7 @@ def exception(unit, code, function=3):
 
 
 def register_reply(unit, files):
-    """The registers of all 11 files; `files` has n, pointer and requested of those that are not idle. The alarm file has 500."""
+    """The registers of all 11 files; `files` has n, pointer and requested of those that are not idle. The alarm file's n is 500
+    where they say nothing of it."""
     files = {11: (500, 0, 0), **files}
     return reply(unit, b"".join(struct.pack(">HHH", *files.get(file, (0, 0, 0))) for file in range(1, 12)))

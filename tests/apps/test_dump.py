@@ -21,7 +21,7 @@ class Whole(DumpCase):
     def test_store(self):
         self.stored()
         lines = self.dump("store").splitlines()
-        for line in ("unit 17, month-first dates, archive of 12000 bytes", "running on, unlocked off, pending off",
+        for line in ("unit 17, month-first dates, archive of 12000 bytes, firmware 74", "running on, unlocked off, pending off",
                      "points on at the latest scan: 1801", "alarm slot 5: point 1801, type 1, transducer 7101",
                      "file 1: n 4, pointer 2, requested 0, trigger 1801", "  laid out: n 4, groups 5101:1 4001:1",
                      "  4 records of 18 bytes, oldest 2026-05-01T03:30:00, newest 2026-05-01T06:30:00", "record,stamp,5101,4001",
@@ -55,7 +55,7 @@ class Whole(DumpCase):
         self.write("s", "unit 9\ndates day-first\n")
         self.expect(FINE, "", "gateway", "s", "--store", "store", "--scans", "0")
         out = self.dump("store")
-        self.assertIn("unit 9, day-first dates, archive of 65536 bytes\n", out)
+        self.assertIn("unit 9, day-first dates, archive of 65536 bytes, firmware 74\n", out)
         self.assertIn("no scan yet\n", out)
         self.assertIn("  0 records of 22 bytes\n", out)
 
@@ -123,14 +123,17 @@ class Refused(DumpCase):
             self.expect(MISUSE, "--file takes a", "dump", "store", "--file", value)
 
 
-class Clause(DumpCase):
-    """A state that breaks one clause alone, and that the message names it and no other."""
-
+class ForeignCase(DumpCase):
     def foreign(self, store, *clauses):
+        """The state breaks these clauses, and no other is told."""
         self.write("store", store.bytes())
         done = self.expect(TROUBLE, "windrow-dump: the state is refused: 2 Foreign", "dump", "store")
         self.assertEqual(done.stderr.splitlines()[1:], ["  " + clause for clause in clauses])
         self.assertEqual(done.stdout, "")
+
+
+class Clause(ForeignCase):
+    """A state that breaks one clause alone, and that the message names it and no other."""
 
     def test_good_state_is_not_foreign(self):
         self.write("store", stores.with_file(4, (7101, 1), archive_length=12000).bytes())
@@ -205,5 +208,5 @@ class Clause(DumpCase):
         """What a refused fresh leaves, with an archive of its length."""
         self.write("state", bytes(1604))
         self.write("archive", b"")
-        self.expect(TROUBLE, ["unit 0 is not 1-247", "the laid-out files do not fit the archive of 0 bytes"],
-                    "dump", "state", "archive")
+        self.expect(TROUBLE, ["unit 0 is not 1-247", "firmware 0 is neither 73 nor 74",
+                              "the laid-out files do not fit the archive of 0 bytes"], "dump", "state", "archive")

@@ -64,6 +64,11 @@ BAD_LINES = {
     "number_with_a_tail": ("archive 11000b", "this is no number: 11000b"),
     "endless_number": ("archive " + "9" * 30, "this is no number: 999"),
     "number_past_32_bits": ("archive 4294967296", "this number is not 0 to 4294967295: 4294967296"),
+    "firmware_without_number": ("firmware", "too few or too many words for this setting: firmware"),
+    "two_firmwares": ("firmware 73 74", "too few or too many words for this setting: firmware"),
+    "firmware_twice": ("firmware 74\nfirmware 74", "this is set twice: firmware"),
+    "firmware_with_a_dot": ("firmware .74", "this is no number: .74"),
+    "firmware_past_32_bits": ("firmware 4294967369", "this number is not 0 to 4294967295: 4294967369"),
     "date_order": ("dates year-first", "dates are month-first or day-first: year-first"),
     "file_0": ("file 0 4", "this number is not 1 to 10: 0"),
     "file_11": ("file 11 4", "this number is not 1 to 10: 11"),
@@ -130,6 +135,8 @@ for line, (text, message) in {**BAD_LINES, **REFUSED_BY_THE_LIBRARY}.items():
 class Site(SettingsCase):
     """What the library refuses of the whole."""
 
+    MEMORY = "archive of %d bytes is refused: it is not of 11,000 to 1,048,576, as firmware 74 needs it (1 Memory)"
+
     def test_unit_0(self):
         self.refused("unit 0\n", "unit 0 is refused: it is not 1-247 (2 Foreign)")
 
@@ -137,10 +144,10 @@ class Site(SettingsCase):
         self.refused("unit 248\n", "unit 248 is refused: it is not 1-247 (2 Foreign)")
 
     def test_archive_of_10999_bytes(self):
-        self.refused("unit 17\narchive 10999\n", "archive of 10999 bytes is refused: it is not of 11,000 to 1,048,576 (1 Memory)")
+        self.refused("unit 17\narchive 10999\n", self.MEMORY % 10999)
 
     def test_archive_over_a_mebibyte(self):
-        self.refused("unit 17\narchive 1048577\n", "archive of 1048577 bytes is refused: it is not of 11,000 to 1,048,576 (1 Memory)")
+        self.refused("unit 17\narchive 1048577\n", self.MEMORY % 1048577)
 
     def test_no_room(self):
         self.refused("unit 17\narchive 11005\nfile 1 1\n", "archive of 11005 bytes: with the alarm file they need 11006 (11 Room)")

@@ -58,13 +58,15 @@ class DamagedStore(StoreCase):
 
     def test_other_format(self):
         store = stores.Store.of(self.stored())
-        store.format = 2
-        self.refused(store.bytes(), "store has a state of format 2 and 1604 bytes; this program takes format 1 and 1604 bytes")
+        for store.format in 0, 3, 257:
+            self.refused(store.bytes(), "store has a state of format %d and 1604 bytes;"
+                         " this program takes format 1 or 2 and 1604 bytes" % store.format)
 
     def test_other_state_length(self):
         store = stores.Store.of(self.stored())
         store.state += b"\0\0"
-        self.refused(store.bytes(), "store has a state of format 1 and 1606 bytes")
+        for store.format in 1, 2:
+            self.refused(store.bytes(), "store has a state of format %d and 1606 bytes" % store.format)
 
     def test_a_bit_turned(self):
         whole = self.stored()
@@ -78,7 +80,8 @@ class DamagedStore(StoreCase):
         for place in stores.DAY_FIRST, stores.RUNNING, stores.UNLOCKED, stores.PENDING, stores.SCANNED:
             store = stores.Store.of(whole)
             store.state[place] = 2
-            self.refused(store.bytes(), "store has no state: a bool in it is neither 0 nor 1")
+            for content in store.bytes(), store.as_of_2().bytes():
+                self.refused(content, "store has no state: a bool in it is neither 0 nor 1")
 
     def test_foreign_state_under_a_right_crc(self):
         store = stores.Store.of(self.stored())

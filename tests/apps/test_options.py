@@ -19,7 +19,7 @@ class Options(Case):
     def test_help_names_every_setting(self):
         for name in "gateway", "read", "frame":
             out = self.expect(FINE, "", name, "--help").stdout
-            for setting in "unit dates archive file trigger alarm at begin scan baud parity gap".split():
+            for setting in "unit firmware dates archive file trigger alarm at begin scan baud parity gap".split():
                 self.assertIn("\n  %s " % setting, out)
 
     def test_unknown_option(self):
@@ -38,6 +38,15 @@ class Options(Case):
 
     def test_gateway_takes_one_settings_file(self):
         self.expect(MISUSE, "exactly one settings file is wanted", "gateway", "a", "b")
+
+    def test_firmware(self):
+        """Any whole number of 32 bits is one to be judged; what is none is told before a file is looked at."""
+        for name, *words in "gateway s".split(), "frame 11".split(), "frame 11 --settings s".split(), "compare s t 1=c".split():
+            for value in "", "x", "-1", "73.5", "4294967296", "nan":
+                self.expect(MISUSE, "--firmware takes a", name, *words, "--firmware", value)
+            self.expect(MISUSE, "--firmware needs a value", name, *words, "--firmware")
+        for name in "read", "dump":
+            self.expect(MISUSE, "there is no option --firmware", name, "s", "--firmware", "73")
 
     def test_gateway_numbers(self):
         for option, value in (("--speed", "0"), ("--speed", "fast"), ("--speed", "nan"), ("--speed", "inf"), ("--scans", "-1"),

@@ -2,8 +2,8 @@
  * A gateway's firmware in C: makes a gateway, defines a file, starts it, sets a trigger and an alarm slot, scans, polls, hands
  * the replies to the reading end, and is refused what the service card refuses; asserts the header's layout. Offsets and sizes
  * are worked out by hand from C's rules for x86-64, and the expected lines are written from document 01, those of live points, of
- * the order of alarms and of clean text from document 02, L3 to L5; CRCs, those of the requests below too, were worked out by the
- * bit rule in Python. Both headers and both libraries serve one program.
+ * the order of alarms, of clean text and of firmware 73 from document 02, L3 to L5 and L8; CRCs, those of the requests below too,
+ * were worked out by the bit rule in Python. Both headers and both libraries serve one program.
  */
 #include <assert.h>
 #include <stdio.h>
@@ -15,6 +15,8 @@
 
 #define ROOMY 11006 /* the alarm file's 11,000 bytes and one bare stamp */
 #define TIGHT 11005
+#define ROOMY_73 3306 /* of firmware 73, whose alarm file has 3,300 bytes */
+#define TIGHT_73 3305
 
 #define RECORDS 11049 /* the alarm file, and before it two records of 14 bytes, or one of 49 with texts */
 #define RECORD 14
@@ -43,11 +45,11 @@ static const uint16_t with_texts[32] = {4031, 2, 3001, 1, 1803, 8, 14016, 1, 510
 static void check_parts(void)
 {
     WHOLE(windrow_site, 8, FIELD(windrow_site, archive_length) + FIELD(windrow_site, unit) + FIELD(windrow_site, day_first)
-          + FIELD(windrow_site, reserved));
+          + FIELD(windrow_site, firmware));
     AT(windrow_site, archive_length, 0);
     AT(windrow_site, unit, 4);
     AT(windrow_site, day_first, 5);
-    AT(windrow_site, reserved, 6);
+    AT(windrow_site, firmware, 6);
 
     WHOLE(windrow_flags, 3, FIELD(windrow_flags, running) + FIELD(windrow_flags, unlocked) + FIELD(windrow_flags, pending));
     AT(windrow_flags, running, 0);
@@ -134,11 +136,17 @@ static unsigned filled(void)
     return filled_of(archive, sizeof archive);
 }
 
+static void show_site(struct windrow_state s)
+{
+    printf("archive %u, unit %u, day first %d, firmware %u, filled bytes %u\n", s.site.archive_length, s.site.unit,
+           s.site.day_first, s.site.firmware, filled());
+}
+
 static struct windrow_state one_bare_stamp(void)
 {
     memset(archive, 0xEE, sizeof archive);
-    struct windrow_state s = told("fresh", windrow_gateway_fresh(true, 17, archive, ROOMY));
-    printf("archive %u, unit %u, day first %d, filled bytes %u\n", s.site.archive_length, s.site.unit, s.site.day_first, filled());
+    struct windrow_state s = told("fresh", windrow_gateway_fresh(true, 17, 74, archive, ROOMY));
+    show_site(s);
     s = told("define while locked", windrow_gateway_define(s, archive, ROOMY, 1, bare_stamp, 1));
     s = told("unlock", windrow_gateway_unlock(s, archive, ROOMY));
     s = told("define file 0", windrow_gateway_define(s, archive, ROOMY, 0, past_the_row, 1));
@@ -198,7 +206,7 @@ static void stopped_and_damaged(struct windrow_state s)
 
 static void no_room(void)
 {
-    struct windrow_state s = told("fresh", windrow_gateway_fresh(false, 17, archive, TIGHT));
+    struct windrow_state s = told("fresh", windrow_gateway_fresh(false, 17, 74, archive, TIGHT));
     s = told("unlock", windrow_gateway_unlock(s, archive, TIGHT));
     s = told("define a bare stamp", windrow_gateway_define(s, archive, TIGHT, 1, bare_stamp, 1));
     told("start", windrow_gateway_start(s, archive, TIGHT));
@@ -208,9 +216,9 @@ static void refused_fresh(void)
 {
     static const struct windrow_state zeros;
     memset(archive, 0xEE, sizeof archive);
-    struct windrow_state s = told("fresh with 10,999 bytes and unit 0", windrow_gateway_fresh(true, 0, archive, 10999));
-    s = told("fresh with unit 248", windrow_gateway_fresh(true, 248, archive, ROOMY));
-    s = told("fresh with unit 257", windrow_gateway_fresh(true, 257, archive, ROOMY));
+    struct windrow_state s = told("fresh with 10,999 bytes and unit 0", windrow_gateway_fresh(true, 0, 74, archive, 10999));
+    s = told("fresh with unit 248", windrow_gateway_fresh(true, 248, 74, archive, ROOMY));
+    s = told("fresh with unit 257", windrow_gateway_fresh(true, 257, 74, archive, ROOMY));
     printf("filled bytes %u, zeros %d\n", filled(), memcmp(&s, &zeros, sizeof s) == 0);
     told("unlock the zeros", windrow_gateway_unlock(s, archive, 0));
     told("unlock the zeros over memory", windrow_gateway_unlock(s, archive, ROOMY));
@@ -262,7 +270,7 @@ static void show(const char *what, size_t place, size_t length)
 /* A gateway whose file 1 keeps two records, one a rise of 1803; its alarm slots are on 1811, rises only, and 1803, any change. */
 static struct windrow_state watching(void)
 {
-    struct windrow_state s = windrow_gateway_fresh(false, 17, records, sizeof records).state;
+    struct windrow_state s = windrow_gateway_fresh(false, 17, 74, records, sizeof records).state;
     s = windrow_gateway_trigger(s, records, sizeof records, 1, 1803).state;
     s = windrow_gateway_alarm(s, records, sizeof records, 1, 1811, 1, 0).state;
     s = windrow_gateway_alarm(s, records, sizeof records, 2, 1803, 0, 7101).state;
@@ -354,13 +362,23 @@ static struct windrow_poll_answer polled(struct windrow_state s, const uint8_t *
     return a;
 }
 
-/* Prints the reply to a frame and the requested number of file 1, and hands on the state. */
-static struct windrow_state poll(const char *what, struct windrow_state s, const uint8_t *frame, size_t length)
+/* Prints the reply to a frame and the requested number of a file, and hands on the state. */
+static struct windrow_state poll_of(int file, const char *what, struct windrow_state s, const uint8_t *frame, size_t length)
 {
     struct windrow_poll_answer a = polled(s, frame, length);
-    printf("%s, requested %u:", what, a.state.line.requested[0]);
+    printf("%s, requested %u:", what, a.state.line.requested[file - 1]);
     show_bytes(reply, a.length);
     return a.state;
+}
+
+static struct windrow_state poll(const char *what, struct windrow_state s, const uint8_t *frame, size_t length)
+{
+    return poll_of(1, what, s, frame, length);
+}
+
+static struct windrow_state poll_alarm(const char *what, struct windrow_state s, const uint8_t *frame, size_t length)
+{
+    return poll_of(WINDROW_ALARM_FILE, what, s, frame, length);
 }
 
 static void print_stamp(const uint16_t groups[32], size_t length)
@@ -551,7 +569,7 @@ static void refused_polls(struct windrow_state s)
 /* The table that is lent is read, whatever was scanned. */
 static void poll_unscanned(void)
 {
-    struct windrow_state s = told("fresh", windrow_gateway_fresh(false, 17, records, sizeof records));
+    struct windrow_state s = told("fresh", windrow_gateway_fresh(false, 17, 74, records, sizeof records));
     poll("3001 before any scan", s, FRAME(0x11, 0x03, 0x0B, 0xB9, 0x00, 0x01, 0x55, 0x5B));
 }
 
@@ -561,7 +579,7 @@ static struct windrow_state with_slots(void)
     static const struct {
         uint32_t slot, point, type, transducer;
     } slots[] = {{1, 1928, 2, 7101}, {2, 1803, 1, 0}, {3, 1811, 0, 0}, {4, 1928, 3, 0}, {5, 1803, 2, 7101}, {32, 1928, 0, 0}};
-    struct windrow_state s = windrow_gateway_fresh(false, 17, records, sizeof records).state;
+    struct windrow_state s = windrow_gateway_fresh(false, 17, 74, records, sizeof records).state;
     for (size_t i = 0; i < sizeof slots / sizeof slots[0]; i++)
         s = windrow_gateway_alarm(s, records, sizeof records, slots[i].slot, slots[i].point, slots[i].type, slots[i].transducer)
                 .state;
@@ -618,7 +636,7 @@ static void fill_texts(void)
 /* A rise of 1801 captures a record with texts, and logs an alarm. */
 static struct windrow_state capture_texts(void)
 {
-    struct windrow_state s = windrow_gateway_fresh(false, 17, records, sizeof records).state;
+    struct windrow_state s = windrow_gateway_fresh(false, 17, 74, records, sizeof records).state;
     s = windrow_gateway_trigger(s, records, sizeof records, 1, 1801).state;
     s = windrow_gateway_alarm(s, records, sizeof records, 1, 1801, 0, 7101).state;
     s = windrow_gateway_unlock(s, records, sizeof records).state;
@@ -677,6 +695,169 @@ static void clean_text(void)
     poll_texts("record 1 as filed before 2.2", s);
 }
 
+/* Firmware 73 with room for one bare stamp, or with a byte less. */
+static struct windrow_state one_bare_stamp_of_73(size_t length)
+{
+    memset(archive, 0xEE, sizeof archive);
+    struct windrow_state s = told("fresh of 73", windrow_gateway_fresh(false, 17, 73, archive, length));
+    show_site(s);
+    s = told("unlock", windrow_gateway_unlock(s, archive, length));
+    s = told("define a bare stamp", windrow_gateway_define(s, archive, length, 1, bare_stamp, 1));
+    return told("start", windrow_gateway_start(s, archive, length));
+}
+
+/* Firmware before memory before unit, each alone and with those behind it. In 8 or 16 bits some of the firmwares would be good. */
+static void order_of_fresh(void)
+{
+    static const struct windrow_state zeros;
+    static uint8_t large[1048577];
+    static const struct {
+        uint32_t firmware, unit;
+        size_t length;
+    } tried[] = {
+        {72, 0, 0}, {72, 17, 3306}, {75, 17, 11006}, {0, 17, 11006}, {329, 17, 3306}, {330, 17, 11006}, {65609, 17, 3306},
+        {65610, 17, 11006}, {75, 0, 1048577}, {UINT32_MAX, 17, 11006},
+        {73, 0, 0}, {73, 17, 3299}, {73, 0, 3299}, {74, 17, 3300}, {74, 17, 10999}, {73, 17, 1048577}, {74, 0, 1048577},
+        {73, 0, 3300}, {73, 248, 1048576}, {74, 257, 11000},
+        {73, 1, 3300}, {73, 247, 1048576}, {74, 247, 11000},
+    };
+    for (size_t i = 0; i < sizeof tried / sizeof tried[0]; i++) {
+        memset(large, 0xEE, sizeof large);
+        struct windrow_gateway_answer a = windrow_gateway_fresh(true, tried[i].unit, tried[i].firmware, large, tried[i].length);
+        assert(a.carried == 0 && (a.number == WINDROW_DONE || memcmp(&a.state, &zeros, sizeof zeros) == 0));
+        printf("fresh of %u over %zu bytes with unit %u: %u, firmware %u, filled bytes %u\n", tried[i].firmware, tried[i].length,
+               tried[i].unit, a.number, a.state.site.firmware, filled_of(large, sizeof large));
+    }
+}
+
+/* What every call but fresh answers to a state, over so much of the archive. */
+static void every_call(const char *what, struct windrow_state s, size_t length)
+{
+    static const struct windrow_stamp noon = {8, 29, 7, 12, 0, 0};
+    printf("%s: unlock %u, lock %u, stop %u, start %u, define %u, trigger %u, alarm %u, scan %u, poll %u\n", what,
+           windrow_gateway_unlock(s, archive, length).number, windrow_gateway_lock(s, archive, length).number,
+           windrow_gateway_stop(s, archive, length).number, windrow_gateway_start(s, archive, length).number,
+           windrow_gateway_define(s, archive, length, 1, bare_stamp, 1).number,
+           windrow_gateway_trigger(s, archive, length, 1, 1801).number,
+           windrow_gateway_alarm(s, archive, length, 1, 1801, 0, 0).number,
+           windrow_gateway_scan(s, archive, length, live, sizeof live, noon).number,
+           windrow_gateway_poll(s, archive, length, live, sizeof live, live, 0, reply, sizeof reply).number);
+}
+
+/* A stopped gateway of 73 with one bare stamp laid out, in which the firmware or a number of the alarm file is another. */
+static void states_of_73(struct windrow_state s)
+{
+    static const uint16_t firmwares[] = {73, 0, 72, 75, 329, 65535, 74};
+    char what[32];
+    s = windrow_gateway_stop(s, archive, ROOMY_73).state;
+    for (size_t i = 0; i < sizeof firmwares / sizeof firmwares[0]; i++) {
+        struct windrow_state other = s;
+        other.site.firmware = firmwares[i];
+        snprintf(what, sizeof what, "firmware %u", firmwares[i]);
+        every_call(what, other, ROOMY_73);
+        assert(windrow_gateway_lock(other, archive, ROOMY_73 - 1).number == WINDROW_MEMORY);
+    }
+    for (uint16_t number = 150; number <= 151; number++) {
+        struct windrow_state pointed = s, requested = s;
+        pointed.files.pointers[10] = number;
+        requested.line.requested[10] = number;
+        printf("pointer %u: %u, requested number %u: %u\n", number, windrow_gateway_lock(pointed, archive, ROOMY_73).number, number,
+               windrow_gateway_lock(requested, archive, ROOMY_73).number);
+    }
+}
+
+/* A gateway of firmware 73 without files. 31 slots log any change of 1803, each with a transducer of its own. */
+static struct windrow_state of_73(void)
+{
+    struct windrow_state s = windrow_gateway_fresh(false, 17, 73, records, sizeof records).state;
+    for (uint8_t slot = 1; slot <= 31; slot++) {
+        s = windrow_gateway_alarm(s, records, sizeof records, slot, 1803, 0, 7100u + slot).state;
+        live[656 + 4 * (slot - 1)] = 0x42;
+        live[656 + 4 * (slot - 1) + 1] = slot;
+    }
+    return told("start of 73", windrow_gateway_start(s, records, sizeof records));
+}
+
+/* Four changes log 124 alarms. The fifth fills the file and goes round behind record 150. */
+static struct windrow_state round_150(void)
+{
+    memset(live, 0, sizeof live);
+    fill_live();
+    struct windrow_state s = of_73();
+    for (uint8_t i = 0; i <= 5; i++) {
+        now(i % 2 == 1, false, i);
+        s = scan(i % 2 == 1 ? "1803 on" : "1803 off", s, 11, 50 + i);
+    }
+    show_alarms(149, 150);
+    show_alarms(1, 1);
+    show_alarms(5, 6);
+    printf("filled bytes past alarm 150: %u\n", filled_of(records + 150 * ALARM, sizeof records - 150 * ALARM));
+    return s;
+}
+
+/* Record 150 is the last one, by number and as requested, whole and by its stamp. */
+static void poll_150(struct windrow_state s)
+{
+    s = poll_alarm("registers of the alarm file", s, FRAME(0x11, 0x03, 0x0E, 0x93, 0x00, 0x03, 0xF5, 0x9E));
+    s = poll_alarm("alarm 150 by number", s, FRAME(0x11, 0x03, 0x02, 0xDB, 0x00, 0x96, 0xB6, 0xB7));
+    struct windrow_alarm_answer alarm = windrow_read_alarm(false, reply, ALARM + 5);
+    printf("read back: %u, point %u type %u bit %u, %g, %d passes, %d litres\n", alarm.number, alarm.point, alarm.type, alarm.bit,
+           (double)alarm.transducer, (int)alarm.passes, (int)alarm.litres);
+    s = poll_alarm("alarm 151 by number", s, FRAME(0x11, 0x03, 0x02, 0xDB, 0x00, 0x97, 0x77, 0x77));
+    s = poll_alarm("alarm 500 by number", s, FRAME(0x11, 0x03, 0x02, 0xDB, 0x01, 0xF4, 0x36, 0xCE));
+    s = poll_alarm("alarm 0 by number", s, FRAME(0x11, 0x03, 0x02, 0xDB, 0x00, 0x00, 0x36, 0xD9));
+    s = poll_alarm("stamp 150 by number", s, FRAME(0x11, 0x03, 0x03, 0x0D, 0x00, 0x96, 0x56, 0xB3));
+    s = poll_alarm("stamp 151 by number", s, FRAME(0x11, 0x03, 0x03, 0x0D, 0x00, 0x97, 0x97, 0x73));
+    s = poll_alarm("request alarm 151", s, FRAME(0x11, 0x06, 0x0E, 0x95, 0x00, 0x97, 0xD8, 0x30));
+    s = poll_alarm("alarm requested before any is", s, FRAME(0x11, 0x03, 0x02, 0xC7, 0x00, 0x0B, 0xB6, 0xD8));
+    s = poll_alarm("request alarm 150", s, FRAME(0x11, 0x06, 0x0E, 0x95, 0x00, 0x96, 0x19, 0xF0));
+    s = poll_alarm("alarm requested", s, FRAME(0x11, 0x03, 0x02, 0xC7, 0x00, 0x0B, 0xB6, 0xD8));
+    s = poll_alarm("stamp requested", s, FRAME(0x11, 0x03, 0x02, 0xF9, 0x00, 0x03, 0xD6, 0xD2));
+    s = poll_alarm("request alarm 500", s, FRAME(0x11, 0x06, 0x0E, 0x95, 0x01, 0xF4, 0x99, 0x89));
+    s = poll_alarm("request alarm 0", s, FRAME(0x11, 0x06, 0x0E, 0x95, 0x00, 0x00, 0x99, 0x9E));
+    poll_alarm("every register", s, FRAME(0x11, 0x03, 0x0E, 0x75, 0x00, 0x21, 0x94, 0x70));
+}
+
+/*
+ * A state as releases 1 and 2 stored it: month first, unit 17, running, 1803 off at the latest scan and its slot with transducer
+ * 7101, 499 alarms, of which number 500 is requested. Its two reserved bytes, 6 and 7, name no firmware.
+ */
+static const uint8_t stored_by_2[WINDROW_STATE_BYTES] = {
+    [0] = 0x29, [1] = 0x2B, [4] = 17, [8] = 1, [11] = 1, [12] = 0x01, [708] = 0xF3, [709] = 0x01, [730] = 0xF4, [731] = 0x01,
+    [1412] = 0x0B, [1413] = 0x07, [1414] = 0xBD, [1415] = 0x1B};
+
+/* Its newest alarm, 499, and its oldest, 500, which was captured last year. */
+static const uint8_t alarms_of_2[] = {
+    0x08, 0x1C, 0x07, 0x0B, 0x24, 0x34, 0x07, 0x0B, 0x00, 0x00, 0x42, 0x28, 0x00, 0x00, /* 28 August 2007, 42.0 */
+    0x00, 0x00, 0x00, 0x03, 0x00, 0x01, 0x86, 0xA0,
+    0x0C, 0x1F, 0x06, 0x17, 0x3B, 0x3B, 0x07, 0x0B, 0x00, 0x01, 0x42, 0x29, 0x00, 0x00, /* 31 December 2006, 42.25 */
+    0x00, 0x00, 0x00, 0x02, 0x00, 0x01, 0x11, 0x70};
+
+/* Taken back as of format 1 it goes on over the archive as it was, with 500 alarms. Taken for a state of format 2 it is Foreign. */
+static void taken_back(void)
+{
+    struct windrow_state s;
+    memset(records, 0, sizeof records);
+    memcpy(records + 498 * ALARM, alarms_of_2, sizeof alarms_of_2);
+    assert(windrow_state_from_bytes(&s, stored_by_2));
+    told("lock what 2 has stored", windrow_gateway_lock(s, records, sizeof records));
+    assert(windrow_state_from_format_1(&s, stored_by_2));
+    printf("firmware %u\n", s.site.firmware);
+    s = told("lock it as of format 1", windrow_gateway_lock(s, records, sizeof records));
+    s = poll_alarm("alarm requested", s, FRAME(0x11, 0x03, 0x02, 0xC7, 0x00, 0x0B, 0xB6, 0xD8));
+    s = poll_alarm("alarm 151 by number", s, FRAME(0x11, 0x03, 0x02, 0xDB, 0x00, 0x97, 0x77, 0x77));
+    s = poll_alarm("alarm 501 by number", s, FRAME(0x11, 0x03, 0x02, 0xDB, 0x01, 0xF5, 0xF7, 0x0E));
+    memset(live, 0, sizeof live);
+    fill_live();
+    now(true, false, 4);
+    s = scan("1803 on", s, 11, 51);
+    now(false, false, 5);
+    s = scan("1803 off", s, 11, 52);
+    show_alarms(499, 500);
+    show_alarms(1, 2);
+    poll_alarm("registers of the alarm file", s, FRAME(0x11, 0x03, 0x0E, 0x93, 0x00, 0x03, 0xF5, 0x9E));
+}
+
 int main(void)
 {
     check_layout();
@@ -687,5 +868,10 @@ int main(void)
     poll_unscanned();
     cleared_before_raised();
     clean_text();
+    one_bare_stamp_of_73(TIGHT_73);
+    states_of_73(one_bare_stamp_of_73(ROOMY_73));
+    order_of_fresh();
+    poll_150(round_150());
+    taken_back();
     return 0;
 }

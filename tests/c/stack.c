@@ -45,7 +45,7 @@ static uint8_t taken[WINDROW_TABLE_BYTES];
 static bool is_taken;
 
 /* Each call by itself, with arguments that take it through all its work. */
-static void fresh(void) { answer = windrow_gateway_fresh(false, 17, archive, sizeof archive); }
+static void fresh(void) { answer = windrow_gateway_fresh(false, 17, 74, archive, sizeof archive); }
 static void unlock(void) { answer = windrow_gateway_unlock(state, archive, sizeof archive); }
 static void lock(void) { answer = windrow_gateway_lock(state, archive, sizeof archive); }
 static void stop(void) { answer = windrow_gateway_stop(state, archive, sizeof archive); }
@@ -68,7 +68,7 @@ static void read_alarm(void) { logged = windrow_read_alarm(false, frame, polled.
 static void take_flags(void) { is_taken = windrow_reply_points(frame, polled.length, taken, WINDROW_FIRST_FLAG, 128); }
 
 /* The same with the state by pointer. */
-static void fresh_at(void) { number = windrow_fresh(&state, false, 17, archive, sizeof archive); }
+static void fresh_at(void) { number = windrow_fresh(&state, false, 17, 74, archive, sizeof archive); }
 static void unlock_at(void) { number = windrow_unlock(&state, archive, sizeof archive); }
 static void lock_at(void) { number = windrow_lock(&state, archive, sizeof archive); }
 static void stop_at(void) { number = windrow_stop(&state, archive, sizeof archive); }

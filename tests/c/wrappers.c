@@ -1,9 +1,9 @@
 /*
  * The inline functions of the headers, which stand on the proved ones. Every call of the gateway is made both ways, by pointer
  * and by value, each on a state and an archive of its own: number, state, archive and what else is answered must be the same,
- * done and refused. A state is stored and taken back. Requests are published ones; alarm records are written by hand from
- * document 01. The expected lines were written from document 01, those of live points from document 02, L3, and CRCs worked out by
- * the bit rule in Python.
+ * done and refused. A state is stored and taken back, also as one of format 1. Requests are published ones; alarm records are
+ * written by hand from document 01. The expected lines were written from document 01, those of live points and of firmware 73 from
+ * document 02, L3 and L8, and CRCs worked out by the bit rule in Python.
  */
 #include <assert.h>
 #include <stdio.h>
@@ -48,15 +48,17 @@ static void both(const char *call, uint32_t number, struct windrow_gateway_answe
     told(call, number, by_value.number, false);
 }
 
-static void fresh(const char *call, uint32_t unit, size_t length)
+static void fresh(const char *call, uint32_t unit, uint32_t firmware, size_t length)
 {
     static const struct windrow_state zeros;
-    uint32_t number = windrow_fresh(&ours.state, true, unit, ours.archive, length);
-    struct windrow_gateway_answer by_value = windrow_gateway_fresh(true, unit, theirs.archive, length);
+    uint32_t number = windrow_fresh(&ours.state, true, unit, firmware, ours.archive, length);
+    struct windrow_gateway_answer by_value = windrow_gateway_fresh(true, unit, firmware, theirs.archive, length);
     theirs.state = by_value.state;
     told(call, number, by_value.number, true);
     if (number != WINDROW_DONE)
         assert(memcmp(&ours.state, &zeros, sizeof zeros) == 0);
+    else
+        assert(ours.state.site.unit == unit && ours.state.site.firmware == firmware && ours.state.site.archive_length == length);
 }
 
 /* A define both ways, and once more where the bad place is not wanted. */
@@ -77,9 +79,13 @@ static void set_up(void)
 {
     memset(&ours, 0xEE, sizeof ours);
     theirs = before = ours;
-    fresh("fresh with unit 248", 248, ARCHIVE);
-    fresh("fresh with 10,999 bytes", 17, 10999);
-    fresh("fresh", 17, ARCHIVE);
+    fresh("fresh with unit 248", 248, 74, ARCHIVE);
+    fresh("fresh with 10,999 bytes", 17, 74, 10999);
+    fresh("fresh of firmware 75 with no bytes", 17, 75, 0);
+    fresh("fresh of firmware 65,609, which is 73 in 16 bits", 17, 65609, ARCHIVE);
+    fresh("fresh of firmware 73 with 3,299 bytes", 17, 73, 3299);
+    fresh("fresh of firmware 73 with 3,300 bytes", 17, 73, 3300);
+    fresh("fresh", 17, 74, ARCHIVE);
     define("define while locked", 1, watched, 2);
     both("unlock with a byte less", windrow_unlock(&ours.state, ours.archive, ARCHIVE - 1),
          windrow_gateway_unlock(theirs.state, theirs.archive, ARCHIVE - 1));
@@ -193,29 +199,62 @@ static bool is_bool(size_t place)
     return place == 5 || (8 <= place && place <= 11);
 }
 
-/* Every byte of a stored state in turn is 0, 1, 2 and 255: only a bool that is neither 0 nor 1 is refused, and nothing is taken. */
-static void stored(void)
+/* The state that these bytes are; of the first format its firmware is 74, whatever stands there. */
+static struct windrow_state stored_as(const uint8_t bytes[WINDROW_STATE_BYTES], bool first_format)
 {
+    uint8_t wanted[WINDROW_STATE_BYTES];
+    struct windrow_state state;
+    memcpy(wanted, bytes, sizeof wanted);
+    if (first_format) {
+        wanted[6] = 74;
+        wanted[7] = 0;
+    }
+    memcpy(&state, wanted, sizeof state);
+    return state;
+}
+
+/* Takes bytes back and answers whether they are taken; where not, the state is left alone. */
+static bool take(const uint8_t bytes[WINDROW_STATE_BYTES], bool first_format)
+{
+    struct windrow_state back = before.state, wanted = stored_as(bytes, first_format);
+    bool taken = first_format ? windrow_state_from_format_1(&back, bytes) : windrow_state_from_bytes(&back, bytes);
+    assert(memcmp(&back, taken ? &wanted : &before.state, sizeof back) == 0);
+    return taken;
+}
+
+/* Every byte of a stored state in turn is 0, 1, 2 and 255: only a bool that is neither 0 nor 1 is refused, and nothing is taken. */
+static void stored(bool first_format)
+{
+    static const uint8_t tried[] = {0, 1, 2, 255};
     uint8_t bytes[WINDROW_STATE_BYTES];
-    struct windrow_state back;
     memcpy(bytes, &ours.state, sizeof bytes);
     unsigned refused = 0;
     for (size_t place = 0; place < sizeof bytes; place++)
         for (int i = 0; i < 4; i++) {
-            static const uint8_t tried[] = {0, 1, 2, 255};
             uint8_t kept = bytes[place];
             bytes[place] = tried[i];
-            memcpy(&back, &before.state, sizeof back);
-            bool taken = windrow_state_from_bytes(&back, bytes);
+            bool taken = take(bytes, first_format);
             assert(taken == !(is_bool(place) && i >= 2));
-            assert(memcmp(&back, taken ? bytes : (const uint8_t *)&before.state, sizeof back) == 0);
             refused += !taken;
             bytes[place] = kept;
         }
     printf("stored states refused: %u\n", refused);
+}
+
+/* The state goes on from its bytes, the second time from those that release 2 stored: there no firmware stands. */
+static void taken_back(void)
+{
+    uint8_t bytes[WINDROW_STATE_BYTES];
+    memcpy(bytes, &ours.state, sizeof bytes);
     memset(&ours.state, 0, sizeof ours.state);
     assert(windrow_state_from_bytes(&ours.state, bytes));
     both("lock the state taken back", windrow_lock(&ours.state, ours.archive, ARCHIVE),
+         windrow_gateway_lock(theirs.state, theirs.archive, ARCHIVE));
+    bytes[6] = bytes[7] = 0;
+    assert(windrow_state_from_bytes(&ours.state, bytes));
+    printf("lock it without a firmware: %u\n", windrow_lock(&ours.state, ours.archive, ARCHIVE));
+    assert(windrow_state_from_format_1(&ours.state, (const uint8_t *)&ours.state)); /* in place */
+    both("lock it as of format 1", windrow_lock(&ours.state, ours.archive, ARCHIVE),
          windrow_gateway_lock(theirs.state, theirs.archive, ARCHIVE));
 }
 
@@ -425,7 +464,9 @@ int main(void)
     settings();
     scans();
     polls();
-    stored();
+    stored(false);
+    stored(true);
+    taken_back();
     requests();
     alarms();
     replies();

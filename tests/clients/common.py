@@ -170,3 +170,15 @@ def chances(checks, client, files):
     seen = [client.read(725, 16), client.read(771, 3), client.read(773, 3), client.read(724, 3)]
     wanted = [files[5].records[16], files[1].records[3][:6], files[3].records[3][:6], files[4].records[3]]
     checks.same("720+f and 770+f: a reply of twice the quantity is read", seen, [("ok", record) for record in wanted])
+
+
+def older_firmware(checks, client, files):
+    """A gateway of firmware 73, on which drivers that were made for it find the end where they expect it (document 02, L8)."""
+    checks.same("firmware 73: 150 alarm records, which have gone round", client.read(3731, 3), numbers(150, 6, 0))
+    seen, wanted = [], []
+    for k in (1, 6, 7, 149, 150):
+        seen += [client.write(requested(11), k), client.read(711, 11), client.read(761, 3)]
+        wanted += [DONE, ("ok", files[11].records[k]), ("ok", files[11].records[k][:6])]
+    checks.same("firmware 73: alarm records up to 150 are read", seen, wanted)
+    seen = [client.write(requested(11), k) for k in (151, 500)] + [client.read(requested(11), 1)]
+    checks.same("firmware 73: alarm record 151 is an illegal data value", seen, [VALUE, VALUE, numbers(150)])

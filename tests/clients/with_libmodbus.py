@@ -3,7 +3,7 @@
 import subprocess
 import sys
 
-from common import (DONE, FUNCTION, VALUE, Checks, all_can, chances, numbers, refusals, requested, unlike_quantity,
+from common import (DONE, FUNCTION, VALUE, Checks, all_can, chances, numbers, older_firmware, refusals, requested, unlike_quantity,
                     unlike_registers)
 from gateway import UNIT, Gateway, expected
 
@@ -82,6 +82,14 @@ def main():
         raw(checks, client, files)
         own(checks, client)
         checks.same("the program ends well", client.close(), 0)
+    files = expected(73)
+    with Gateway(73) as gateway:
+        client = Libmodbus(sys.argv[1], gateway.link)
+        older_firmware(checks, client, files)
+        seen = [client.poll("raw", *poll) for poll in ((731, 150), (781, 150), (731, 151), (781, 151))]
+        checks.same("firmware 73: raw requests read alarm 150 by number, and 151 is an illegal data value", seen,
+                    [("ok", files[11].records[150]), ("ok", files[11].records[150][:6]), VALUE, VALUE])
+        client.close()
 
 
 main()

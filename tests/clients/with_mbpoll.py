@@ -3,7 +3,7 @@
 import re
 import subprocess
 
-from common import ADDRESS, FUNCTION, VALUE, Checks, all_can, chances, numbers, refusals, requested
+from common import ADDRESS, FUNCTION, VALUE, Checks, all_can, chances, numbers, older_firmware, refusals, requested
 from gateway import DEADLINE, UNIT, Gateway, expected
 
 # What mbpoll says, whatever it says around it.
@@ -79,6 +79,8 @@ def main():
         refusals(checks, client, files)
         chances(checks, client, files)
         own(checks, client, files)
+    with Gateway(73) as gateway:
+        older_firmware(checks, Mbpoll(gateway.link), expected(73))
 
 
 main()

@@ -10,7 +10,8 @@ import pymodbus
 from pymodbus.client import AsyncModbusSerialClient, ModbusSerialClient
 from pymodbus.exceptions import ModbusException
 
-from common import ADDRESS, DONE, FUNCTION, VALUE, Checks, all_can, chances, numbers, requested, unlike_quantity, unlike_registers
+from common import (ADDRESS, DONE, FUNCTION, VALUE, Checks, all_can, chances, numbers, older_firmware, requested, unlike_quantity,
+                    unlike_registers)
 from gateway import DEADLINE, UNIT, Gateway, expected
 
 EXCEPTIONS = {1: FUNCTION, 2: ADDRESS, 3: VALUE}
@@ -203,6 +204,12 @@ def main():
         numbered(checks, client, files)
         asynchronous(checks, gateway.link, files)
         own(checks, client, gateway.link)
+    with Gateway(73) as gateway:
+        client = Pymodbus(gateway.link)
+        older_firmware(checks, client, expected(73))
+        if STRICT:
+            checks.same("firmware 73: alarm 151 by number is an illegal data value", [client.read(731, 151), client.read(781, 151)],
+                        [VALUE] * 2)
 
 
 main()
