@@ -46,7 +46,7 @@ static void load_pair(struct store *store, const char *state_path, const char *a
     uint8_t *bytes = file_bytes(state_path, WINDROW_MOST_ARCHIVE, &length);
     if (length != WINDROW_STATE_BYTES)
         give_up("%s is no state: it has %zu bytes and not %d", state_path, length, WINDROW_STATE_BYTES);
-    if (!state_of_format(&store->state, bytes, format))
+    if (!windrow_state_from_bytes(&store->state, bytes, format))
         give_up("%s is no state: a bool in it is neither 0 nor 1", state_path);
     free(bytes);
     store->archive = file_bytes(archive_path, WINDROW_MOST_ARCHIVE, &store->archive_length);
@@ -235,7 +235,8 @@ static void load(struct store *store, char **words, int plain, const char *forma
         misused("--format is for a state and an archive; a store names its own");
     if (plain == 2)
         load_pair(store, words[1], words[2],
-                  format == NULL ? WINDROW_STATE_FORMAT : option_whole("--format", format, FIRST_FORMAT, WINDROW_STATE_FORMAT));
+                  format == NULL ? WINDROW_STATE_FORMAT
+                                 : option_whole("--format", format, WINDROW_STATE_FORMAT_1, WINDROW_STATE_FORMAT));
     else if (!store_load(store, words[1]))
         give_up("there is no store %s", words[1]);
 }

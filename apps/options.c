@@ -48,7 +48,7 @@ double option_number(const char *name, const char *text, double least, double mo
     char *end;
     double value = strtod(text, &end);
     if (end == text || *end != 0 || !(value >= least && value <= most))
-        misused("%s takes a number from %.9g to %.9g, not `%s`", name, least, most, text);
+        misused("%s takes a number from %.10g to %.10g, not `%s`", name, least, most, text);
     return value;
 }
 

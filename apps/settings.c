@@ -15,7 +15,7 @@ const char settings_help[] =
     "  unit 17                     the gateway's Modbus unit, 1-247\n"
     "  dates month-first           or day-first: the order of a stamp's first two bytes\n"
     "  firmware 74                 or 73: the alarm file has 500 records or 150; 73 is for a site whose drivers were made\n"
-    "                              for that firmware and read past record 150\n"
+    "                              for that firmware, whether they stop at record 150 or read on\n"
     "  archive 65536               bytes of archive memory, 11,000 (firmware 73: 3,300) to 1,048,576\n"
     "  file 1 96 7101:3 5101:3     file 1-10, the most records, its groups: first point and number of points\n"
     "                              (0:0 is an unused place)\n"

@@ -132,8 +132,9 @@ static void want_same_site(const struct store *store, const struct settings *set
 {
     const struct windrow_site *site = &store->state.site;
     if (site->firmware != settings->firmware)
-        give_up("the store %s is of a gateway with firmware %u, and %s says %lu (74 where nothing is said); it can't be changed",
-                path, site->firmware, settings->firmware_by, (unsigned long)settings->firmware);
+        give_up("the store %s is of a gateway with firmware %u, which can't be changed, and %s is for one with %lu: go on with"
+                " --firmware %u, or name another --store for a new gateway",
+                path, site->firmware, settings->firmware_by, (unsigned long)settings->firmware, site->firmware);
     if (site->unit != settings->unit || site->day_first != settings->day_first || store->archive_length != settings->archive_length)
         give_up("the store %s is of a gateway with unit %u, %s dates and %zu bytes of archive; %s says otherwise, and these can't"
                 " be changed",

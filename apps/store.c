@@ -46,17 +46,12 @@ static void check_head(const uint8_t *bytes, size_t length, const char *path)
         give_up("%s is no gateway's store%s", path,
                 length == WINDROW_STATE_BYTES ? "; it has the size of a state, which goes with its archive" : "");
     uint32_t format = windrow_get_bytes(bytes + FORMAT_AT, 4), state_length = windrow_get_bytes(bytes + STATE_LENGTH_AT, 4);
-    if ((format != FIRST_FORMAT && format != WINDROW_STATE_FORMAT) || state_length != WINDROW_STATE_BYTES)
+    if ((format != WINDROW_STATE_FORMAT_1 && format != WINDROW_STATE_FORMAT) || state_length != WINDROW_STATE_BYTES)
         give_up("%s has a state of format %lu and %lu bytes; this program takes format %d or %d and %d bytes", path,
-                (unsigned long)format, (unsigned long)state_length, FIRST_FORMAT, WINDROW_STATE_FORMAT, WINDROW_STATE_BYTES);
+                (unsigned long)format, (unsigned long)state_length, WINDROW_STATE_FORMAT_1, WINDROW_STATE_FORMAT, WINDROW_STATE_BYTES);
     size_t whole = HEAD_BYTES + WINDROW_STATE_BYTES + windrow_get_bytes(bytes + ARCHIVE_LENGTH_AT, 4) + CRC_BYTES;
     if (length != whole)
         give_up("%s is %s: it has %zu bytes and not %zu", path, length < whole ? "cut short" : "too long", length, whole);
-}
-
-bool state_of_format(struct windrow_state *state, const uint8_t bytes[WINDROW_STATE_BYTES], uint32_t format)
-{
-    return format == FIRST_FORMAT ? windrow_state_from_format_1(state, bytes) : windrow_state_from_bytes(state, bytes);
 }
 
 bool store_load(struct store *store, const char *path)
@@ -68,7 +63,7 @@ bool store_load(struct store *store, const char *path)
     check_head(bytes, length, path);
     if (!windrow_has_crc(bytes, length))
         give_up("%s is damaged: its CRC is wrong", path);
-    if (!state_of_format(&store->state, bytes + HEAD_BYTES, windrow_get_bytes(bytes + FORMAT_AT, 4)))
+    if (!windrow_state_from_bytes(&store->state, bytes + HEAD_BYTES, windrow_get_bytes(bytes + FORMAT_AT, 4)))
         give_up("%s has no state: a bool in it is neither 0 nor 1", path);
     store->archive_length = windrow_get_bytes(bytes + ARCHIVE_LENGTH_AT, 4);
     store->scans = windrow_get_bytes(bytes + SCANS_AT, 4);

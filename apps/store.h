@@ -22,12 +22,6 @@ struct store {
     uint32_t scans; /* of the yard or the trace, so that a gateway that comes back goes on where it was */
 };
 
-/* The format of the states that releases 1 and 2 stored. They name no firmware, and are taken as of 74. */
-#define FIRST_FORMAT 1
-
-/* Takes a state of the first format or of this release's; false where a bool in it is neither 0 nor 1. */
-bool state_of_format(struct windrow_state *state, const uint8_t bytes[WINDROW_STATE_BYTES], uint32_t format);
-
 /* Takes a store from a file; false where there is no such file. Ends the program, and says why, where it is no whole store. */
 bool store_load(struct store *store, const char *path);
 

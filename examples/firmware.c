@@ -25,7 +25,7 @@ static bool done(const char *call, uint32_t number)
 /*
  * Makes a gateway whose file 1 has these groups, and starts it; stops at the first call that is refused. Its firmware is 74, so
  * that it keeps 500 alarms. This is for a first start, since fresh sets the archive to zeros: a gateway that has stored its state
- * and archive takes them back (windrow_state_from_bytes) and goes on.
+ * and archive takes them back (windrow_state_from_bytes, with the format that it stored) and goes on.
  */
 static bool begin(const uint16_t groups[WINDROW_GROUP_NUMBERS])
 {

@@ -15,9 +15,9 @@
  * compiler stops one that was not; the linker does not, so link no object that was compiled with headers of 1: most of its polls
  * would be refused with 3 (Table).
  *
- * 3: windrow_fresh and windrow_gateway_fresh take the gateway's firmware too, behind the unit, so that programs for 2 have to be
- * changed where they make a gateway, and where they take a stored state back (below). A compiler stops one whose fresh was not; the
- * linker does not, so link no object that was compiled with headers of 2: its fresh would be refused with 2 (Foreign), as the
+ * 3: windrow_fresh and windrow_gateway_fresh take the gateway's firmware too, behind the unit, and windrow_state_from_bytes the
+ * stored state's format, so that programs for 2 have to be changed where they make a gateway and where they take a state back. A
+ * compiler stops one that was not; the linker does not, so link no object that was compiled with headers of 2: its fresh would be refused with 2 (Foreign), as the
  * archive's address would be taken for the firmware, and so would every call with a state that it has stored, which names none.
  */
 #define WINDROW_VERSION_MAJOR 3
@@ -26,10 +26,11 @@
 #define WINDROW_VERSION "3.0.0"
 
 /*
- * The format of struct windrow_state as bytes. Store it beside a state, and hand no state of another format to these libraries but
- * one of format 1, which releases 1 and 2 stored, through windrow_state_from_format_1 (windrow_gateway.h). A program that makes a
- * fresh gateway wherever it finds another format than this would lose its archive by the upgrade.
+ * The format of struct windrow_state as bytes. Store it beside a state, and hand it to windrow_state_from_bytes with it, which takes
+ * this one and that of releases 1 and 2. A program that makes a fresh gateway wherever it finds another format than
+ * WINDROW_STATE_FORMAT, or wherever a stored state is refused with 2 (Foreign), loses its archive by the upgrade from 2.
  */
 #define WINDROW_STATE_FORMAT 2
+#define WINDROW_STATE_FORMAT_1 1
 
 #endif

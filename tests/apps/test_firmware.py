@@ -74,13 +74,14 @@ class Settings(SettingsCase):
 class StoreOfAnother(StoreCase):
     """A store keeps its firmware: it is refused, and stays as it is, where another is asked for."""
 
-    TOLD = "the store store is of a gateway with firmware %d, and %s says %d (74 where nothing is said); it can't be changed"
+    TOLD = ("the store store is of a gateway with firmware %d, which can't be changed, and %s is for one with %d: go on with"
+            " --firmware %d, or name another --store for a new gateway")
 
     def other(self, own, asked, settings, by, *words):
         before = self.read("store")
         self.write("s", settings)
         for more in (), ("--redefine",):
-            self.expect(TROUBLE, self.TOLD % (own, by, asked), "gateway", "s", "--store", "store", "--scans", "1", *words, *more)
+            self.expect(TROUBLE, self.TOLD % (own, by, asked, own), "gateway", "s", "--store", "store", "--scans", "1", *words, *more)
             self.assertEqual(self.read("store"), before)
 
     def test_of_74(self):
@@ -400,6 +401,7 @@ class Compare(CompareCase):
     def test_any_other(self):
         for firmware in NO_FIRMWARE:
             self.write("s", cleared_first.FULL_SETTINGS + "firmware %d\n" % firmware)
-            self.expect(TROUBLE, "s: a gateway refuses firmware %d" % firmware, "compare", "s", "trace", "11=alarms.csv")
-            self.expect(TROUBLE, "--firmware: a gateway refuses firmware %d" % firmware, "compare", "s", "trace",
+            told = "a gateway refuses firmware %d: it is neither 73 nor 74 (2 Foreign)" % firmware
+            self.expect(TROUBLE, "s: " + told, "compare", "s", "trace", "11=alarms.csv")
+            self.expect(TROUBLE, "--firmware: " + told, "compare", "s", "trace",
                         "11=alarms.csv", "--firmware", str(firmware))

@@ -839,9 +839,9 @@ static void taken_back(void)
     struct windrow_state s;
     memset(records, 0, sizeof records);
     memcpy(records + 498 * ALARM, alarms_of_2, sizeof alarms_of_2);
-    assert(windrow_state_from_bytes(&s, stored_by_2));
+    assert(windrow_state_from_bytes(&s, stored_by_2, 2));
     told("lock what 2 has stored", windrow_gateway_lock(s, records, sizeof records));
-    assert(windrow_state_from_format_1(&s, stored_by_2));
+    assert(windrow_state_from_bytes(&s, stored_by_2, 1));
     printf("firmware %u\n", s.site.firmware);
     s = told("lock it as of format 1", windrow_gateway_lock(s, records, sizeof records));
     s = poll_alarm("alarm requested", s, FRAME(0x11, 0x03, 0x02, 0xC7, 0x00, 0x0B, 0xB6, 0xD8));

@@ -217,7 +217,7 @@ static struct windrow_state stored_as(const uint8_t bytes[WINDROW_STATE_BYTES], 
 static bool take(const uint8_t bytes[WINDROW_STATE_BYTES], bool first_format)
 {
     struct windrow_state back = before.state, wanted = stored_as(bytes, first_format);
-    bool taken = first_format ? windrow_state_from_format_1(&back, bytes) : windrow_state_from_bytes(&back, bytes);
+    bool taken = windrow_state_from_bytes(&back, bytes, first_format ? 1 : 2);
     assert(memcmp(&back, taken ? &wanted : &before.state, sizeof back) == 0);
     return taken;
 }
@@ -247,13 +247,15 @@ static void taken_back(void)
     uint8_t bytes[WINDROW_STATE_BYTES];
     memcpy(bytes, &ours.state, sizeof bytes);
     memset(&ours.state, 0, sizeof ours.state);
-    assert(windrow_state_from_bytes(&ours.state, bytes));
+    assert(windrow_state_from_bytes(&ours.state, bytes, 2));
     both("lock the state taken back", windrow_lock(&ours.state, ours.archive, ARCHIVE),
          windrow_gateway_lock(theirs.state, theirs.archive, ARCHIVE));
+    for (uint32_t format = 0; format < 258; format++) /* 1 and 2 are the formats; 257 is not 1 */
+        assert(windrow_state_from_bytes(&ours.state, bytes, format) == (format == 1 || format == 2));
     bytes[6] = bytes[7] = 0;
-    assert(windrow_state_from_bytes(&ours.state, bytes));
+    assert(windrow_state_from_bytes(&ours.state, bytes, 2));
     printf("lock it without a firmware: %u\n", windrow_lock(&ours.state, ours.archive, ARCHIVE));
-    assert(windrow_state_from_format_1(&ours.state, (const uint8_t *)&ours.state)); /* in place */
+    assert(windrow_state_from_bytes(&ours.state, (const uint8_t *)&ours.state, 1)); /* in place */
     both("lock it as of format 1", windrow_lock(&ours.state, ours.archive, ARCHIVE),
          windrow_gateway_lock(theirs.state, theirs.archive, ARCHIVE));
 }
