@@ -6,6 +6,8 @@ use std::hint::black_box;
 
 use ::gateway::ffi::{self, Answer, Slot, State};
 use ::gateway::states::ZEROS;
+use model::layout::FIRMWARE_74;
+use model::machine::least_archive;
 use model::points::groups_from_first_place;
 use model::record::AUGUST;
 
@@ -16,7 +18,7 @@ use crate::{best, report, Times};
 pub const CALLS: u32 = 20_000;
 const RECORDS_A_FILE: u16 = 10;
 /// Ten files of 250-byte records, and the alarm file.
-pub const ARCHIVE: usize = 10 * 250 * RECORDS_A_FILE as usize + 11_000;
+pub const ARCHIVE: usize = 10 * 250 * RECORDS_A_FILE as usize + least_archive(FIRMWARE_74);
 
 /// The triggers of files 1 to 10 are the first ten Booleans, and the points of slots 32 to 1 are the last 32.
 const TRIGGERS: u128 = 0x3FF;
@@ -33,6 +35,7 @@ pub fn watching(group: (u16, u16)) -> State {
     let mut s = ZEROS;
     s.site.archive_length = ARCHIVE as u32;
     s.site.unit = 1;
+    s.site.firmware = FIRMWARE_74;
     s.flags.running = true;
     s.seen.scanned = true;
     for file in 0..10 {

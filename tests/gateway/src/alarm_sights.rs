@@ -1,6 +1,7 @@
-//! What the alarm records of accepted scans were seen to be, by document 02, L4: those of falls and then those of rises.
+//! What the alarm records of accepted scans were seen to be, by document 02, L4: those of falls and then those of rises. All is to be
+//! seen with either firmware, which decides where the file ends (L8).
 
-use model::layout::ALARM_RECORDS;
+use model::layout::{alarm_records, FIRMWARES};
 use model::machine::SLOTS;
 
 /// The first of the upper 64 points.
@@ -16,6 +17,7 @@ pub struct Alarms {
     pub not_logged: Vec<u16>,
     /// The alarm file's pointer before the scan.
     pub pointer: u16,
+    pub firmware: u16,
 }
 
 impl Alarms {
@@ -39,7 +41,7 @@ impl Alarms {
 
     /// How many of them go before the end of the file, if others go to its first records.
     fn before_the_end(&self) -> Option<usize> {
-        let room = usize::from(ALARM_RECORDS - self.pointer);
+        let room = usize::from(alarm_records(self.firmware) - self.pointer);
         (0 < room && room < self.all()).then_some(room)
     }
 
@@ -75,33 +77,39 @@ const SHOWN: [Shown; 15] = [
     ("scans with raised alarms, and falls that no slot logs", 100, |a| {
         a.cleared.is_empty() && !a.not_logged.is_empty() && !a.raised.is_empty()
     }),
-    ("scans with cleared and raised alarms, the file's end among the cleared", 20, |a| {
+    ("scans with cleared and raised alarms, the file's end among the cleared", 10, |a| {
         a.go_across_the_end(|before_it, cleared| before_it < cleared)
     }),
-    ("scans with cleared and raised alarms, the file's end among the raised", 20, |a| {
+    ("scans with cleared and raised alarms, the file's end among the raised", 10, |a| {
         a.go_across_the_end(|before_it, cleared| before_it > cleared)
     }),
-    ("scans with cleared and raised alarms, the file's end between them", 20, |a| {
+    ("scans with cleared and raised alarms, the file's end between them", 10, |a| {
         a.go_across_the_end(|before_it, cleared| before_it == cleared)
     }),
-    ("scans with 32 raised alarms", 20, |a| a.raised.len() == SLOTS),
-    ("scans with 32 cleared and raised alarms", 20, |a| a.are_both() && a.all() == SLOTS),
+    ("scans with 32 raised alarms", 10, |a| a.raised.len() == SLOTS),
+    ("scans with 32 cleared and raised alarms", 10, |a| a.are_both() && a.all() == SLOTS),
 ];
 
-/// How often the alarms of a scan showed each.
+/// How often the alarms of a scan showed each, with each of FIRMWARES.
 #[derive(Default)]
-pub struct AlarmTally([usize; SHOWN.len()]);
+pub struct AlarmTally([[usize; FIRMWARES.len()]; SHOWN.len()]);
 
 impl AlarmTally {
     pub fn logged(&mut self, alarms: &Alarms) {
         for (seen, (_, _, is_shown)) in self.0.iter_mut().zip(SHOWN) {
-            *seen += usize::from(is_shown(alarms));
+            for (seen, firmware) in seen.iter_mut().zip(FIRMWARES) {
+                *seen += usize::from(firmware == alarms.firmware && is_shown(alarms));
+            }
         }
     }
 
-    /// Each thing, how often it was seen, and how often it should be.
+    /// Each thing, how often it was seen with the firmware that showed it least, and how often it should be.
     pub fn seen(&self) -> Vec<(String, usize, usize)> {
-        let seen = SHOWN.iter().zip(&self.0);
-        seen.map(|((name, least, _), &n)| (name.to_string(), n, *least)).collect()
+        let mut all = Vec::new();
+        for ((name, often_enough, _), seen) in SHOWN.iter().zip(&self.0) {
+            let least = seen.iter().copied().min().unwrap_or(0);
+            all.push((format!("{name}, with the firmware that had fewest"), least, *often_enough));
+        }
+        all
     }
 }

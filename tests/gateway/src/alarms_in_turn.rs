@@ -1,15 +1,17 @@
 //! Scans in turn that log alarms, by document 02, L4: every change of points at the edges of bytes and words, with slots arranged in
-//! several ways; and every number of cleared and of raised ones, from every pointer near the end of the alarm file on.
+//! several ways; and every number of cleared and of raised ones, from every pointer near the end of the alarm file on. All of it is
+//! tried with either firmware, by which the file ends after 150 records or after 500 (L8).
 
 use gateway::ffi::Seen;
 use gateway::tables::Table;
-use model::layout::{ALARM_FILE, ALARM_RECORDS};
-use model::machine::{BOOLEAN_BYTES, LEAST_ARCHIVE, SLOTS};
+use model::layout::{alarm_records, ALARM_FILE, FIRMWARES};
+use model::machine::{least_archive, BOOLEAN_BYTES, SLOTS};
 use model::points::STAMP_BYTES;
 use model::record::{Stamp, AUGUST};
 use reader::random::Random;
 
 use crate::calls::Call;
+use crate::fresh::Fresh;
 use crate::lists::{List, NEVER};
 use crate::scans::bit;
 use crate::tally::{unseen, Tally};
@@ -17,7 +19,7 @@ use crate::tally::{unseen, Tally};
 const UNIT: u32 = 17;
 /// File 1, of bare stamps, lies before the alarm file, and a few bytes behind it.
 const STAMPS: u16 = 2;
-const ARCHIVE: usize = STAMPS as usize * STAMP_BYTES + LEAST_ARCHIVE + 50;
+const BEHIND: usize = 50;
 
 /// The first and the last point, and those on both sides of a byte's end and of a 64-bit word's.
 const EDGES: [u16; 6] = [1801, 1808, 1809, 1864, 1865, 1928];
@@ -53,8 +55,9 @@ fn spread(place: usize) -> u16 {
 }
 
 /// A running gateway with these slots, each with a transducer of its own.
-fn prepared(random: &mut Random, own: &mut Tally, arrangement: Arrangement) -> Result<List, String> {
-    let mut list = List::fresh(random, own, ARCHIVE, UNIT)?;
+fn prepared(random: &mut Random, own: &mut Tally, firmware: u16, arrangement: Arrangement) -> Result<List, String> {
+    let archive = usize::from(STAMPS) * STAMP_BYTES + least_archive(firmware) + BEHIND;
+    let mut list = List::fresh(random, own, &Fresh::of(firmware, UNIT, archive))?;
     let mut calls = vec![
         Call::Unlock,
         Call::Define { file: 1, groups: [0; 32], limit: STAMPS },
@@ -86,9 +89,9 @@ fn chosen(choice: usize) -> u128 {
 }
 
 /// Scans from each choice of edges that are on to each. In every other scan all other points, which have no slot, rise or fall.
-fn every_change(random: &mut Random, own: &mut Tally, arrangement: Arrangement) -> Result<usize, String> {
+fn every_change(random: &mut Random, own: &mut Tally, firmware: u16, arrangement: Arrangement) -> Result<usize, String> {
     const CHOICES: usize = 1 << EDGES.len();
-    let mut list = prepared(random, own, arrangement)?;
+    let mut list = prepared(random, own, firmware, arrangement)?;
     let mut scans = 0;
     for (before, now) in (0..CHOICES).flat_map(|before| (0..CHOICES).map(move |now| (before, now))) {
         for choice in [before, now] {
@@ -121,13 +124,13 @@ fn mixed(cleared: usize, raised: usize) -> (u128, u128) {
 }
 
 /// Scans that clear and raise up to 32 in all, from each pointer near the end of the file: they stay before it or go across it.
-fn near_the_end(random: &mut Random, own: &mut Tally) -> Result<usize, String> {
-    let mut state = prepared(random, own, SPREAD)?.state;
-    let mut scans = 0;
+fn near_the_end(random: &mut Random, own: &mut Tally, firmware: u16) -> Result<usize, String> {
+    let mut state = prepared(random, own, firmware, SPREAD)?.state;
+    let (mut scans, depth) = (0, alarm_records(firmware));
     for (cleared, raised) in (0..=SLOTS).flat_map(|cleared| (0..=SLOTS - cleared).map(move |raised| (cleared, raised))) {
         let (before, now) = mixed(cleared, raised);
         state.seen = Seen { scanned: true, booleans: before.to_le_bytes() };
-        for pointer in ALARM_RECORDS - 40..=ALARM_RECORDS {
+        for pointer in depth - 40..=depth {
             state.files.pointers[ALARM_FILE - 1] = pointer;
             scans += 1;
             let told = |text| format!("{cleared} cleared and {raised} raised after record {pointer}: {text}");
@@ -137,15 +140,23 @@ fn near_the_end(random: &mut Random, own: &mut Tally) -> Result<usize, String> {
     Ok(scans)
 }
 
+/// All that is tried with one firmware. Tells how many scans there were.
+fn scans_in_turn(random: &mut Random, own: &mut Tally, firmware: u16) -> Result<usize, String> {
+    let mut scans = near_the_end(random, own, firmware)?;
+    for (name, arrangement) in ARRANGEMENTS {
+        scans += every_change(random, own, firmware, arrangement).map_err(|text| format!("{name}, {text}"))?;
+    }
+    Ok(scans)
+}
+
 /// The scans count in a tally of their own: that the random lists see everything must not rest on them. They too see all that the
 /// alarms of one scan can show.
 pub fn alarms_in_turn(random: &mut Random, tally: &mut Tally) -> Result<(), String> {
     let mut own = Tally::default();
-    for (name, arrangement) in ARRANGEMENTS {
-        let scans = every_change(random, &mut own, arrangement).map_err(|text| format!("{name}, {text}"))?;
-        tally.alarm_scans_in_turn += scans;
+    for firmware in FIRMWARES {
+        let told = |text| format!("firmware {firmware}, {text}");
+        tally.alarm_scans_in_turn += scans_in_turn(random, &mut own, firmware).map_err(told)?;
     }
-    tally.alarm_scans_in_turn += near_the_end(random, &mut own)?;
     let unseen = unseen(own.alarms.seen());
     if !unseen.is_empty() {
         return Err(format!("in turn there were no {}", unseen.join("; no ")));

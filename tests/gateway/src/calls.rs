@@ -107,8 +107,9 @@ fn any_type(random: &mut Random) -> u32 {
 }
 
 /// The arguments that could be cut.
-pub const WIDE: [&str; 5] = ["unit", "trigger", "slot's point", "slot's type", "slot's transducer"];
+pub const WIDE: [&str; 6] = ["unit", "trigger", "slot's point", "slot's type", "slot's transducer", "firmware"];
 pub const WIDE_UNIT: usize = 0;
+pub const WIDE_FIRMWARE: usize = 5;
 
 impl Call {
     /// A random call; a definition's n is near what the state's archive holds.
@@ -139,7 +140,7 @@ impl Call {
         let drafts = definitions_of(&s.settings.draft);
         let at = (file as usize).clamp(1, 10) - 1;
         let limit = if model::points::judge_definition(&groups).is_ok() {
-            limit_near(random, &drafts, at, &groups, s.site.archive_length as usize)
+            limit_near(random, &drafts, at, &groups, &s.site)
         } else {
             random.below(4) as u16
         };

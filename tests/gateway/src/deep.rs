@@ -1,18 +1,20 @@
 //! A file of 65,535 records, filled from its first record to its last and then over its first, with polls on the way.
 
 use gateway::rows::{requested_register, RECORD_ROWS};
+use gateway::states::any_firmware;
 use gateway::tables::Table;
-use model::machine::{BOOLEAN_BYTES, LEAST_ARCHIVE};
+use model::machine::{least_archive, BOOLEAN_BYTES};
 use model::points::{STAMP_BYTES, TABLE_BYTES};
 use reader::random::{stamp, Random};
 
 use crate::calls::Call;
+use crate::fresh::Fresh;
 use crate::lists::{List, NEVER};
 use crate::scans::bit;
 use crate::tally::Tally;
 
+const UNIT: u32 = 17;
 const DEPTH: u16 = 65_535;
-const ARCHIVE: usize = STAMP_BYTES * DEPTH as usize + LEAST_ARCHIVE;
 const TRIGGER: u16 = 1815;
 /// Captures over the file's first records, after the last.
 const OVER: usize = 40;
@@ -48,8 +50,9 @@ fn look(random: &mut Random, tally: &mut Tally, list: &mut List, file: u16) -> R
 }
 
 pub fn deep_run(random: &mut Random, tally: &mut Tally) -> Result<(), String> {
-    let file = 1 + random.below(10) as u16;
-    let mut list = List::fresh(random, tally, ARCHIVE, 17)?;
+    let (file, firmware) = (1 + random.below(10) as u16, any_firmware(random));
+    let archive = STAMP_BYTES * usize::from(DEPTH) + least_archive(firmware);
+    let mut list = List::fresh(random, tally, &Fresh::of(firmware, UNIT, archive))?;
     let laid_out = [
         Call::Unlock,
         Call::Define { file: file.into(), groups: [0; 32], limit: DEPTH },

@@ -8,7 +8,7 @@ pub struct Site {
     pub archive_length: u32,
     pub unit: u8,
     pub day_first: bool,
-    pub reserved: u16,
+    pub firmware: u16,
 }
 
 #[repr(C)]
@@ -93,7 +93,7 @@ pub struct PollAnswer {
 
 #[link(name = "gateway", kind = "static")]
 extern "C" {
-    fn windrow_gateway_fresh(day_first: bool, unit: u32, archive: *mut u8, len: usize) -> Answer;
+    fn windrow_gateway_fresh(day_first: bool, unit: u32, firmware: u32, archive: *mut u8, len: usize) -> Answer;
     fn windrow_gateway_unlock(s: State, archive: *const u8, len: usize) -> Answer;
     fn windrow_gateway_lock(s: State, archive: *const u8, len: usize) -> Answer;
     fn windrow_gateway_stop(s: State, archive: *const u8, len: usize) -> Answer;
@@ -124,8 +124,8 @@ extern "C" {
     ) -> PollAnswer;
 }
 
-pub fn fresh(day_first: bool, unit: u32, archive: &mut [u8]) -> Answer {
-    unsafe { windrow_gateway_fresh(day_first, unit, archive.as_mut_ptr(), archive.len()) }
+pub fn fresh(day_first: bool, unit: u32, firmware: u32, archive: &mut [u8]) -> Answer {
+    unsafe { windrow_gateway_fresh(day_first, unit, firmware, archive.as_mut_ptr(), archive.len()) }
 }
 
 // What a call only reads, as the archive of most calls, the groups, the live table and the frame, it is lent to write as well, so

@@ -107,11 +107,12 @@ fn record_address(random: &mut Random, s: &State) -> (u16, usize) {
     (one_of(random, &RECORD_ROWS).0 + file as u16, file)
 }
 
-/// A record's number: mostly one of the file's, often the newest, the oldest, the first or the last; else one just past its ends.
+/// A record's number: mostly one of the file's, often the newest, the oldest, the first or the last; else one just past its ends, or
+/// one that the alarm file has with one firmware and with the other has not, or next to those.
 fn record_number(random: &mut Random, s: &State, file: usize) -> u16 {
     let n = limit_of(s, file);
     let pointer = if (1..=ALARM_FILE).contains(&file) { s.files.pointers[file - 1] } else { 0 };
-    match random.below(16) {
+    match random.below(18) {
         0 => 0,
         1 => n.wrapping_add(1),
         2 => random.next() as u16,
@@ -119,6 +120,8 @@ fn record_number(random: &mut Random, s: &State, file: usize) -> u16 {
         6 | 7 => pointer.wrapping_add(1),
         8 => 1,
         9 => n,
+        10 => 150 + random.below(352) as u16,
+        11 => one_of(random, &[150, 151, 500, 501]),
         _ => 1 + random.below(u64::from(n.max(1))) as u16,
     }
 }

@@ -1,30 +1,32 @@
-//! Polls in turn on one gateway: every address, run of registers, run of live points, record, length of frame, function, unit, length
-//! of live table and length of reply buffer, and frames with each bit wrong.
+//! Polls in turn on a gateway of either firmware: every address, run of registers, run of live points, record, length of frame,
+//! function, unit, length of live table and length of reply buffer, and frames with each bit wrong.
 
 use gateway::frames::{resized, Frame};
 use gateway::rows::{limit_of, requested_register, RECORD_ROWS};
 use gateway::states::good_groups;
 use gateway::tables::Table;
 use model::frames::{request, READ, READ_BOOLEANS, WRITE};
-use model::layout::{ALARM_FILE, USER_FILES};
-use model::machine::{FIRST_REGISTER, LAST_REGISTER, LEAST_ARCHIVE};
+use model::layout::{alarm_records, ALARM_FILE, FIRMWARES, FIRMWARE_74, USER_FILES};
+use model::machine::{least_archive, FIRST_REGISTER, LAST_REGISTER};
 use model::points::LONGEST_RECORD;
 use reader::random::Random;
 
 use crate::calls::Call;
+use crate::fresh::Fresh;
 use crate::lists::{List, NEVER};
 use crate::live_in_turn::{self, lengths_of_tables, runs};
 use crate::tally::{unseen, Tally};
 
 /// The n of files 1 to 10.
 const LIMITS: [u16; USER_FILES] = [3, 1, 0, 2, 9, 5, 4, 7, 6, 8];
-const ARCHIVE: usize = LEAST_ARCHIVE + 45 * LONGEST_RECORD;
+const FOR_FILES: usize = 45 * LONGEST_RECORD;
 const UNIT: u8 = 17;
 const SCANS: usize = 400;
 
-/// A running gateway whose files have all gone round, but for the idle one and the alarm file.
-fn prepared(random: &mut Random, tally: &mut Tally) -> Result<List, String> {
-    let mut list = List::fresh(random, tally, ARCHIVE, UNIT.into())?;
+/// A running gateway whose files have all gone round, but for the idle one.
+fn prepared(random: &mut Random, tally: &mut Tally, firmware: u16) -> Result<List, String> {
+    let archive = least_archive(firmware) + FOR_FILES;
+    let mut list = List::fresh(random, tally, &Fresh::of(firmware, UNIT.into(), archive))?;
     let mut calls = vec![Call::Unlock];
     for (file, limit) in (1..).zip(LIMITS) {
         calls.push(Call::Define { file, groups: good_groups(random), limit });
@@ -59,11 +61,20 @@ fn registers() -> impl Iterator<Item = Call> {
         .flat_map(|start| (0..=70).chain([u16::MAX]).map(move |quantity| Call::asking(UNIT, READ, start, quantity)))
 }
 
+/// The n of file 1 to 10; of the alarm file the most that it has with any firmware.
+fn most_records(list: &List, file: usize) -> u16 {
+    if file == ALARM_FILE {
+        alarm_records(FIRMWARE_74)
+    } else {
+        limit_of(&list.state, file)
+    }
+}
+
 /// Every record of every file by number, and by requested number after the 06 that sets it, from 0 to past n.
 fn records(list: &List) -> Vec<Call> {
     let mut polls = Vec::new();
     for file in 1..=ALARM_FILE as u16 {
-        for k in 0..=limit_of(&list.state, file.into()) + 2 {
+        for k in 0..=most_records(list, file.into()) + 2 {
             polls.push(Call::asking(UNIT, WRITE, requested_register(file), k));
             polls.extend(RECORD_ROWS.map(|(before, _)| Call::asking(UNIT, READ, before + file, k)));
         }
@@ -132,26 +143,39 @@ fn rooms() -> impl Iterator<Item = Call> {
     })
 }
 
-/// The polls count in a tally of their own: that the random lists see everything must not rest on them. They too see all that polls
-/// of the live table can show.
-pub fn polls_in_turn(random: &mut Random, tally: &mut Tally) -> Result<(), String> {
-    let mut own = Tally::default();
-    let mut list = prepared(random, &mut own)?;
+/// All polls on a gateway with one firmware. Tells how many there were.
+fn polls_with(random: &mut Random, own: &mut Tally, firmware: u16) -> Result<usize, String> {
+    let mut list = prepared(random, own, firmware)?;
     let captures = list.captures();
-    if let Some(file) = (0..USER_FILES).find(|&file| LIMITS[file] > 0 && captures[file] <= LIMITS[file].into()) {
-        return Err(format!("file {} of the gateway has not gone round", file + 1));
+    let n = |file: usize| usize::from(limit_of(&list.state, file));
+    if let Some(file) = (1..=ALARM_FILE).find(|&file| n(file) > 0 && captures[file - 1] <= n(file)) {
+        return Err(format!("file {file} of the gateway has not gone round"));
     }
     let records = records(&list);
     let sent: Vec<Vec<u8>> = samples(UNIT, 2).into_iter().chain(unanswered(3)).collect();
     let live = runs(UNIT).chain(live_in_turn::units()).chain(lengths_of_tables(&sent));
     let others = registers().chain(lengths()).chain(functions()).chain(units()).chain(wrong_bits()).chain(rooms());
+    let mut polls = 0;
     for poll in records.into_iter().chain(live).chain(others).chain(addresses()) {
-        list.call(random, &mut own, &poll, NEVER)?;
-        tally.polls_in_turn += 1;
+        list.call(random, own, &poll, NEVER)?;
+        polls += 1;
     }
-    let unseen = unseen(own.polls.live.seen());
+    list.end()?;
+    Ok(polls)
+}
+
+/// The polls count in a tally of their own: that the random lists see everything must not rest on them. They too see all that polls
+/// of the live table, and of the alarm file about the depths that it has, can show.
+pub fn polls_in_turn(random: &mut Random, tally: &mut Tally) -> Result<(), String> {
+    let mut own = Tally::default();
+    for firmware in FIRMWARES {
+        let told = |text| format!("firmware {firmware}, {text}");
+        tally.polls_in_turn += polls_with(random, &mut own, firmware).map_err(told)?;
+    }
+    let seen = own.polls.live.seen().into_iter().chain(own.firmwares.polls_seen());
+    let unseen = unseen(seen.collect());
     if !unseen.is_empty() {
         return Err(format!("in turn no poll has shown: {}", unseen.join("; ")));
     }
-    list.end()
+    Ok(())
 }

@@ -4,16 +4,16 @@ use std::rc::Rc;
 
 use gateway::ffi::{self, State};
 use gateway::memories::old_records;
-use gateway::states::{archive_length, damage, raw_of, remembered_of, standing, state_of, CLAUSES, ZEROS};
-use model::card::FOREIGN;
+use gateway::states::{damage, raw_of, remembered_of, standing, state_of, CLAUSES, ZEROS};
 use model::foreign::foreign;
 use model::layout::ALARM_FILE;
 use model::machine::Machine;
 use reader::random::{stamp, Random};
 use reader::texts::live_table;
 
-use crate::calls::{wide, Call, FRESH, WIDE_UNIT};
+use crate::calls::Call;
 use crate::compare::{agree, compare, compare_answer, only_read, wanted_of_machine, wanted_of_state, Wanted};
+use crate::fresh::Fresh;
 use crate::lent::{Buffer, Lent};
 use crate::origins::{Origins, Scan, Stood};
 use crate::poll_sights::PollSight;
@@ -63,19 +63,19 @@ fn lent_length(random: &mut Random, right: usize, one_in: u64) -> usize {
 
 impl List {
     /// Fresh over random bytes.
-    pub fn fresh(random: &mut Random, tally: &mut Tally, length: usize, unit: u32) -> Result<List, String> {
+    pub fn fresh(random: &mut Random, tally: &mut Tally, given: &Fresh) -> Result<List, String> {
+        let Fresh { length, unit, firmware } = *given;
         let day_first = random.chance(2);
         let mut lent = Lent { archive: random.bytes(length), reply: Buffer::none() };
-        let (told, machine) = Machine::fresh(length, day_first, unit);
+        let (told, machine) = Machine::fresh(length, day_first, unit, firmware);
         let mut left = lent.clone();
         if told.is_done() {
             left.archive = machine.archive_memory();
         }
         let wanted = Wanted { told, length: 0, state: state_of(&machine.raw_state(), None, &ZEROS), lent: left };
-        let got = ffi::fresh(day_first, unit, &mut lent.archive).into();
-        tally.answers[FRESH][told.number as usize] += 1;
-        tally.wide[WIDE_UNIT] += u32::from(told.number == FOREIGN && unit > 255 && (1..=247).contains(&(unit & 0xFF)));
-        compare(&wanted, &got, &lent).map_err(|text| format!("Fresh({day_first}, {unit}, {length} bytes)\n{text}"))?;
+        let got = ffi::fresh(day_first, unit, firmware, &mut lent.archive).into();
+        tally.count_fresh(given, told.number);
+        compare(&wanted, &got, &lent).map_err(|text| format!("{given:?}, day first {day_first}\n{text}"))?;
         // what a refused Fresh leaves has no archive
         let mut archive = lent.archive;
         archive.truncate(got.state.site.archive_length as usize);
@@ -215,24 +215,18 @@ impl List {
     }
 }
 
-/// Fresh, mostly with a length and a unit that it takes.
-fn any_fresh(random: &mut Random, tally: &mut Tally) -> Result<List, String> {
-    const LENGTHS: [usize; 6] = [0, 10_999, 11_000, 1_048_576, 1_048_577, 65_536 + 10_000];
-    let length = if random.chance(12) { LENGTHS[random.below(6) as usize] } else { archive_length(random) };
-    let good = [1, 247, 17, 128][random.below(4) as usize];
-    let unit = match random.below(16) {
-        0 => [0, 248, 249, 255][random.below(4) as usize],
-        1 => wide(random, good, 8),
-        _ => good,
-    };
-    List::fresh(random, tally, length, unit)
+/// Fresh, of whose arguments each is one in so many times such that it may be refused.
+fn any_fresh(random: &mut Random, tally: &mut Tally, one_in: u64) -> Result<List, String> {
+    let given = Fresh::any(random, one_in);
+    List::fresh(random, tally, &given)
 }
 
 /// A list of random calls, after Fresh or on a state that is not Foreign over random bytes or old records; between them damaged
-/// copies of the state are handed in.
+/// copies of the state are handed in. Before it a Fresh is tried that may be refused for several arguments at once.
 pub fn short_list(random: &mut Random, tally: &mut Tally) -> Result<(), String> {
+    any_fresh(random, tally, 2)?;
     let mut list = if random.chance(2) {
-        any_fresh(random, tally)?
+        any_fresh(random, tally, 16)?
     } else {
         let state = standing(random);
         List::any_standing(random, state)

@@ -1,14 +1,15 @@
 //! Long runs: thousands of scans and polls, with stops and starts, moved triggers and refused scans among them, on files that go
 //! round many times.
 
-use gateway::ffi::State;
-use gateway::states::{boolean_or_none, float_or_none, good_groups, standing};
+use gateway::ffi::{Site, State};
+use gateway::states::{any_firmware, boolean_or_none, float_or_none, good_groups, standing};
 use model::layout::USER_FILES;
-use model::machine::{LEAST_ARCHIVE, SLOTS};
+use model::machine::{least_archive, SLOTS};
 use model::points::record_size;
 use reader::random::Random;
 
 use crate::calls::Call;
+use crate::fresh::Fresh;
 use crate::lists::{List, NEVER};
 use crate::sights::{ALL_TYPES, LOG_FALLS};
 use crate::tally::Tally;
@@ -33,9 +34,14 @@ fn few_records(random: &mut Random, room: u64) -> u64 {
     n.min(room)
 }
 
+/// The bytes that the archive has for files 1 to 10.
+fn for_files(site: &Site) -> u64 {
+    u64::from(site.archive_length) - least_archive(site.firmware) as u64
+}
+
 /// The ten files defined, in what the archive has for them.
-fn definitions(random: &mut Random, archive: usize) -> Vec<Call> {
-    let mut left = (archive - LEAST_ARCHIVE) as u64;
+fn definitions(random: &mut Random, site: &Site) -> Vec<Call> {
+    let mut left = for_files(site);
     let mut calls = Vec::new();
     for file in 1..=USER_FILES as u32 {
         let groups = good_groups(random);
@@ -71,9 +77,9 @@ fn settings(random: &mut Random) -> Vec<Call> {
 }
 
 /// Files laid out anew, with triggers and slots.
-fn new_layout(random: &mut Random, archive: usize) -> Vec<Call> {
+fn new_layout(random: &mut Random, site: &Site) -> Vec<Call> {
     let mut calls = vec![Call::Stop, Call::Unlock];
-    calls.extend(definitions(random, archive));
+    calls.extend(definitions(random, site));
     calls.extend(settings(random));
     calls.push(Call::Start);
     calls
@@ -108,7 +114,7 @@ fn next_call(random: &mut Random, s: &State) -> Call {
 fn small_standing(random: &mut Random) -> State {
     loop {
         let state = standing(random);
-        if u64::from(state.site.archive_length) <= LEAST_ARCHIVE as u64 + MOST_FOR_FILES {
+        if for_files(&state.site) <= MOST_FOR_FILES {
             return state;
         }
     }
@@ -120,14 +126,17 @@ pub fn long_run(random: &mut Random, tally: &mut Tally) -> Result<(), String> {
         let state = small_standing(random);
         (List::any_standing(random, state), Vec::new())
     } else {
-        let archive = LEAST_ARCHIVE + random.below(MOST_FOR_FILES + 1) as usize;
+        let firmware = any_firmware(random);
+        let archive = least_archive(firmware) + random.below(MOST_FOR_FILES + 1) as usize;
         let unit = 1 + random.below(247) as u32;
-        (List::fresh(random, tally, archive, unit)?, new_layout(random, archive))
+        let list = List::fresh(random, tally, &Fresh::of(firmware, unit, archive))?;
+        let laid_out = new_layout(random, &list.state.site);
+        (list, laid_out)
     };
     let calls_a_layout = if random.chance(2) { CALLS_A_LAYOUT } else { NEVER };
     for number in 1..=CALLS {
         if random.chance(calls_a_layout) {
-            ahead = new_layout(random, list.state.site.archive_length as usize);
+            ahead = new_layout(random, &list.state.site);
         }
         for call in ahead.drain(..) {
             list.call(random, tally, &call, NEVER).map_err(|text| format!("laying out before call {number}: {text}"))?;

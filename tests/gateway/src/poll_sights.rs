@@ -57,7 +57,7 @@ impl PollSight<'_> {
         self.is_of_a_good_length() && self.is_to(0) && self.function() == function
     }
 
-    fn request(&self) -> Option<Request> {
+    pub fn request(&self) -> Option<Request> {
         Request::of(self.frame)
     }
 

@@ -1,7 +1,7 @@
 //! What a request asks for, by document 01's address table; the rows of the live table are in `live`.
 
 use model::frames::number_at;
-use model::layout::{ALARM_FILE, ALARM_RECORDS, USER_FILES};
+use model::layout::{alarm_records, ALARM_FILE, USER_FILES};
 use model::machine::{FIRST_REGISTER, LAST_REGISTER};
 
 use crate::ffi::State;
@@ -94,7 +94,7 @@ impl Request {
 pub fn limit_of(s: &State, file: usize) -> u16 {
     match file {
         1..=USER_FILES => s.files.layout.limits[file - 1],
-        ALARM_FILE => ALARM_RECORDS,
+        ALARM_FILE => alarm_records(s.site.firmware),
         _ => 0,
     }
 }

@@ -1,8 +1,8 @@
 //! What accepted scans were seen to do, counted, so that a run shows that nothing which a scan can meet was left out.
 
 use gateway::ffi::{Slot, State};
-use gateway::rows::groups_of;
-use model::layout::{ALARM_FILE, ALARM_RECORDS, USER_FILES};
+use gateway::rows::{groups_of, limit_of};
+use model::layout::{ALARM_FILE, USER_FILES};
 use model::points::pairs;
 use model::record::Stamp;
 use reader::dates::is_leap_day;
@@ -92,7 +92,7 @@ impl History {
 
 /// Whether a file of at least two records is captured past its last one.
 fn goes_round(before: &State, captured: &Captured, file: usize) -> bool {
-    let n = if file == ALARMS { ALARM_RECORDS } else { before.files.layout.limits[file] };
+    let n = limit_of(before, file + 1);
     n > 1 && usize::from(before.files.pointers[file]) + captured[file] > usize::from(n)
 }
 
@@ -140,6 +140,16 @@ impl<'a> Sight<'a> {
         goes_round(self.before, &self.captured, file)
     }
 
+    pub fn firmware(&self) -> u16 {
+        self.before.site.firmware
+    }
+
+    /// The alarm file's pointer before the scan, and what it would be after it if the file had no end.
+    pub fn alarm_pointers(&self) -> [usize; 2] {
+        let pointer = usize::from(self.pointer(ALARMS));
+        [pointer, pointer + self.captured[ALARMS]]
+    }
+
     fn is_bare(&self, file: usize) -> bool {
         *groups_of(self.before, file + 1) == [0; 32]
     }
@@ -156,7 +166,7 @@ impl<'a> Sight<'a> {
     }
 
     /// How many of files 1 to 10 captured.
-    fn files(&self) -> usize {
+    pub fn files(&self) -> usize {
         self.files_where(|_| true)
     }
 
@@ -192,6 +202,7 @@ impl<'a> Sight<'a> {
             raised: slots_on(self.rises(), &ALL_TYPES),
             not_logged: slots_on(self.falls(), &LOG_RISES_ONLY),
             pointer: self.pointer(ALARMS),
+            firmware: self.firmware(),
         }
     }
 
@@ -212,8 +223,8 @@ const LOG_RISES_ONLY: [u16; 2] = [1, 3];
 /// A name, and how often one scan shows it.
 type Shown = (&'static str, fn(&Sight) -> usize);
 
-/// Everything that a whole run must have seen.
-pub const SIGHTS: [Shown; 32] = [
+/// Everything that a whole run must have seen, but for what goes by the firmware.
+pub const SIGHTS: [Shown; 30] = [
     ("records captured", |s| s.files()),
     ("records captured day first", |s| s.files_where(|_| s.before.site.day_first)),
     ("records captured month first", |s| s.files_where(|_| !s.before.site.day_first)),
@@ -245,8 +256,6 @@ pub const SIGHTS: [Shown; 32] = [
         s.while_running(s.triggers_on(s.history.raised_while_stopped & s.now, false))
     }),
     ("alarm records", |s| s.captured[ALARMS]),
-    ("alarm files that went round", |s| usize::from(s.goes_round(ALARMS))),
-    ("alarm files that wrapped inside one scan", |s| usize::from(s.goes_round(ALARMS) && s.pointer(ALARMS) < ALARM_RECORDS)),
     ("scans of at least 24 alarms", |s| usize::from(s.captured[ALARMS] >= 24)),
     ("scans with alarms and captures", |s| usize::from(s.files() > 0 && s.captured[ALARMS] > 0)),
     ("scans whose alarms are not in the order of slots", |s| {

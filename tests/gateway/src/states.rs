@@ -1,17 +1,22 @@
 //! States: the library's as the model's plain fields and back, random ones that are not Foreign, and damaged ones.
 
 use model::foreign::{definitions, RawState};
-use model::layout::{layout_bytes, most_records, record_bytes, Definition, Definitions, USER_FILES};
+use model::layout::{
+    alarm_records, layout_bytes, record_bytes, Definition, Definitions, ALARM_FILE, ALARM_RECORD_BYTES, FIRMWARES, FIRMWARE_73,
+    FIRMWARE_74, USER_FILES,
+};
+use model::machine::{least_archive, MOST_ARCHIVE};
 use model::points::{groups_from_first_place, judge_definition};
 use reader::random::{groups, Random};
 
 use crate::ffi::{self, Files, Flags, Line, Seen, Settings, Site, Slot, State};
+use crate::rows::limit_of;
 
 const IDLE: ffi::Definitions = ffi::Definitions { groups: [0; 320], limits: [0; 10] };
 
 /// The state of zeros that a refused Fresh hands back.
 pub const ZEROS: State = State {
-    site: Site { archive_length: 0, unit: 0, day_first: false, reserved: 0 },
+    site: Site { archive_length: 0, unit: 0, day_first: false, firmware: 0 },
     flags: Flags { running: false, unlocked: false, pending: false },
     seen: Seen { scanned: false, booleans: [0; 16] },
     settings: Settings { draft: IDLE, triggers: [0; 10], slots: [Slot { point: 0, transducer: 0, kind: 0 }; 32] },
@@ -23,6 +28,7 @@ pub fn raw_of(s: &State) -> RawState {
     RawState {
         day_first: s.site.day_first,
         unit: s.site.unit,
+        firmware: s.site.firmware,
         archive_len: s.site.archive_length,
         running: s.flags.running,
         unlocked: s.flags.unlocked,
@@ -45,17 +51,16 @@ pub fn remembered_of(s: &State) -> Option<[u8; 16]> {
     s.seen.scanned.then_some(s.seen.booleans)
 }
 
-/// The plain fields as the library's state. What means nothing stays as given: `reserved`, and the bytes of `booleans` before a scan.
+/// The plain fields as the library's state. What means nothing stays as given: the bytes of `booleans` before a scan.
 pub fn state_of(raw: &RawState, remembered: Option<[u8; 16]>, given: &State) -> State {
     let mut slots = ZEROS.settings.slots;
     for (i, slot) in slots.iter_mut().enumerate() {
         *slot = Slot { point: raw.slot_point[i], transducer: raw.slot_float[i], kind: raw.slot_kind[i] };
     }
-    let reserved = given.site.reserved;
     let draft = ffi::Definitions { groups: raw.draft_groups, limits: raw.draft_n };
     let layout = ffi::Definitions { groups: raw.groups, limits: raw.n };
     State {
-        site: Site { archive_length: raw.archive_len, unit: raw.unit, day_first: raw.day_first, reserved },
+        site: Site { archive_length: raw.archive_len, unit: raw.unit, day_first: raw.day_first, firmware: raw.firmware },
         flags: Flags { running: raw.running, unlocked: raw.unlocked, pending: raw.pending },
         seen: Seen { scanned: remembered.is_some(), booleans: remembered.unwrap_or(given.seen.booleans) },
         settings: Settings { draft, triggers: raw.triggers, slots },
@@ -93,17 +98,28 @@ pub fn definitions_of(files: &ffi::Definitions) -> Definitions {
     definitions(&files.groups, &files.limits)
 }
 
+/// The bytes of the layout, alarm file included.
+pub fn laid_out_bytes(s: &State) -> u64 {
+    layout_bytes(&definitions_of(&s.files.layout), s.site.firmware)
+}
+
 fn set_groups(files: &mut ffi::Definitions, file: usize, numbers: &[u16; 32]) {
     files.groups[32 * file..32 * file + 32].copy_from_slice(numbers);
 }
 
-/// Mostly 11,000 to 13,000 bytes, now and then a large one.
-pub fn archive_length(random: &mut Random) -> usize {
+/// One of those in use.
+pub fn any_firmware(random: &mut Random) -> u16 {
+    FIRMWARES[random.below(2) as usize]
+}
+
+/// Mostly up to 2,000 bytes more than a gateway with this firmware needs, or one with 74 does, now and then a large one.
+pub fn archive_length(random: &mut Random, firmware: u16) -> usize {
+    let least = least_archive(if random.chance(4) { FIRMWARE_74 } else { firmware });
     match random.below(40) {
-        0 => 11_000,
-        1 => 1_048_576,
-        2 => 11_000 + random.below(1_037_577) as usize,
-        _ => 11_000 + random.below(2_001) as usize,
+        0 => least,
+        1 => MOST_ARCHIVE,
+        2 => least + random.below((MOST_ARCHIVE - least) as u64 + 1) as usize,
+        _ => least + random.below(2_001) as usize,
     }
 }
 
@@ -205,11 +221,11 @@ fn too_long(random: &mut Random) -> [u16; 32] {
 }
 
 /// A number of records that fits what is left of the archive, exactly or with some to spare, or one record too many.
-pub fn limit_near(random: &mut Random, files: &Definitions, file: usize, numbers: &[u16; 32], archive: usize) -> u16 {
+pub fn limit_near(random: &mut Random, files: &Definitions, file: usize, numbers: &[u16; 32], site: &Site) -> u16 {
     let mut others = *files;
     others[file] = Definition::IDLE;
     others[file].groups = *numbers;
-    let left = (archive as u64).saturating_sub(layout_bytes(&others));
+    let left = u64::from(site.archive_length).saturating_sub(layout_bytes(&others, site.firmware));
     let most = left / record_bytes(&others, file + 1).max(6) as u64;
     let limit = match random.below(12) {
         0..=3 => random.below(3),
@@ -224,13 +240,12 @@ pub fn limit_near(random: &mut Random, files: &Definitions, file: usize, numbers
 
 /// A file laid out where there is room, drafted, and given a trigger.
 fn any_file(random: &mut Random, s: &mut State, file: usize) {
-    let archive = s.site.archive_length as usize;
     if random.chance(2) {
         let numbers = good_groups(random);
         set_groups(&mut s.files.layout, file, &numbers);
         let laid_out = definitions_of(&s.files.layout);
-        s.files.layout.limits[file] = limit_near(random, &laid_out, file, &numbers, archive);
-        if layout_bytes(&definitions_of(&s.files.layout)) > archive as u64 {
+        s.files.layout.limits[file] = limit_near(random, &laid_out, file, &numbers, &s.site);
+        if laid_out_bytes(s) > s.site.archive_length.into() {
             s.files.layout.limits[file] = 0;
         }
     }
@@ -243,10 +258,11 @@ fn any_file(random: &mut Random, s: &mut State, file: usize) {
 
 /// A state that is not Foreign, though no list of calls may leave it: every field as free as row 2 lets it be.
 pub fn standing(random: &mut Random) -> State {
-    let archive = archive_length(random);
+    let firmware = any_firmware(random);
+    let archive = archive_length(random, firmware);
     let mut s = ZEROS;
-    let (unit, reserved) = (1 + random.below(247) as u8, random.next() as u16);
-    s.site = Site { archive_length: archive as u32, unit, day_first: random.chance(2), reserved };
+    let unit = 1 + random.below(247) as u8;
+    s.site = Site { archive_length: archive as u32, unit, day_first: random.chance(2), firmware };
     match random.below(3) {
         0 => s.flags.running = true,
         1 => s.flags.unlocked = true,
@@ -264,9 +280,8 @@ pub fn standing(random: &mut Random) -> State {
     for slot in &mut s.settings.slots {
         *slot = Slot { point: boolean_or_none(random), transducer: float_or_none(random), kind: random.below(4) as u16 };
     }
-    let laid_out = definitions_of(&s.files.layout);
-    for file in 0..11 {
-        let n = u64::from(most_records(&laid_out, file + 1));
+    for file in 0..ALARM_FILE {
+        let n = u64::from(limit_of(&s, file + 1));
         s.files.pointers[file] = if random.chance(4) { n as u16 } else { random.below(n + 1) as u16 };
         s.line.requested[file] = if random.chance(4) { n as u16 } else { random.below(n + 1) as u16 };
     }
@@ -281,7 +296,7 @@ fn deepen(random: &mut Random, s: &mut State) {
     let file = random.below(10) as usize;
     s.files.layout = ZEROS.files.layout;
     s.files.layout.limits[file] = 65_535;
-    s.site.archive_length = layout_bytes(&definitions_of(&s.files.layout)) as u32 + random.below(20) as u32;
+    s.site.archive_length = laid_out_bytes(s) as u32 + random.below(20) as u32;
     s.files.pointers[..USER_FILES].fill(0);
     s.line.requested[..USER_FILES].fill(0);
     s.files.pointers[file] = 65_535 - random.below(3) as u16;
@@ -290,7 +305,7 @@ fn deepen(random: &mut Random, s: &mut State) {
 }
 
 /// The clauses of Foreign, each with a name for the tally.
-pub const CLAUSES: [&str; 15] = [
+pub const CLAUSES: [&str; 19] = [
     "running and unlocked",
     "draft: bad group",
     "draft: long record",
@@ -306,13 +321,25 @@ pub const CLAUSES: [&str; 15] = [
     "requested over n",
     "unit",
     "layout one record more",
+    "firmware",
+    "alarm pointer over 150 and not over 500 with firmware 73",
+    "requested alarm over 150 and not over 500 with firmware 73",
+    "layout over memory with firmware 74 and not with 73",
 ];
+
+/// What the alarm file takes more with firmware 74 than with 73.
+const MORE_WITH_74: usize = (alarm_records(FIRMWARE_74) - alarm_records(FIRMWARE_73)) as usize * ALARM_RECORD_BYTES;
+
+/// A number of a record that the alarm file has with firmware 74 only.
+fn with_74_only(random: &mut Random) -> u16 {
+    let [least, most] = FIRMWARES.map(alarm_records);
+    least + 1 + random.below((most - least).into()) as u16
+}
 
 /// Damages one thing of a state, by the clause with that index. Some are on the allowed side of the edge: the model tells.
 pub fn damage(random: &mut Random, s: &mut State, clause: usize) {
     let file = random.below(10) as usize;
     let slot = random.below(32) as usize;
-    let n = |s: &State, file: usize| most_records(&definitions_of(&s.files.layout), file + 1);
     match clause {
         0 => (s.flags.running, s.flags.unlocked) = (true, true),
         1 => set_groups(&mut s.settings.draft, file, &with_a_bad_group(random)),
@@ -325,7 +352,7 @@ pub fn damage(random: &mut Random, s: &mut State, clause: usize) {
         8 => s.settings.slots[slot].transducer = no_float(random),
         9 => s.files.layout.limits[file] = s.files.layout.limits[file].max(65_535 - random.below(3) as u16),
         10 => {
-            let bytes = layout_bytes(&definitions_of(&s.files.layout)) as u32;
+            let bytes = laid_out_bytes(s) as u32;
             s.site.archive_length = match random.below(4) {
                 0 => bytes,
                 1 => random.below(u64::from(bytes)) as u32,
@@ -334,16 +361,28 @@ pub fn damage(random: &mut Random, s: &mut State, clause: usize) {
         }
         11 | 12 => {
             let file = if random.chance(4) { 10 } else { file };
-            let over = n(s, file).saturating_add(1 + if random.chance(3) { random.below(65_535) as u16 } else { 0 });
+            let over = limit_of(s, file + 1).saturating_add(1 + if random.chance(3) { random.below(65_535) as u16 } else { 0 });
             let numbers = if clause == 11 { &mut s.files.pointers } else { &mut s.line.requested };
             numbers[file] = over;
         }
         13 => s.site.unit = [0, 248, 249, 255, 247, 1][random.below(6) as usize],
-        _ => {
-            let laid_out = definitions_of(&s.files.layout);
-            let left = u64::from(s.site.archive_length).saturating_sub(layout_bytes(&laid_out));
-            let more = left / record_bytes(&laid_out, file + 1).max(6) as u64 + u64::from(!random.chance(5));
+        14 => {
+            let left = u64::from(s.site.archive_length).saturating_sub(laid_out_bytes(s));
+            let size = record_bytes(&definitions_of(&s.files.layout), file + 1);
+            let more = left / size.max(6) as u64 + u64::from(!random.chance(5));
             s.files.layout.limits[file] = (u64::from(s.files.layout.limits[file]) + more).min(65_535) as u16;
+        }
+        15 => s.site.firmware = [0, 72, 75, 329, 330, 65_535, FIRMWARE_73, FIRMWARE_74][random.below(8) as usize],
+        16 | 17 => {
+            s.site.firmware = FIRMWARE_73;
+            let (pointer, requested) = (&mut s.files.pointers[ALARM_FILE - 1], &mut s.line.requested[ALARM_FILE - 1]);
+            let (over, other) = if clause == 16 { (pointer, requested) } else { (requested, pointer) };
+            *over = with_74_only(random);
+            *other = alarm_records(FIRMWARE_73).min(*other);
+        }
+        _ => {
+            s.site.firmware = FIRMWARE_74;
+            s.site.archive_length = laid_out_bytes(s) as u32 - 1 - random.below(MORE_WITH_74 as u64) as u32;
         }
     }
 }

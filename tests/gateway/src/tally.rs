@@ -5,8 +5,11 @@ use model::card::{CLOCK, DONE, FOREIGN, MEMORY, TABLE};
 use reader::dates::is_impossible_day;
 
 use crate::alarm_sights::AlarmTally;
-use crate::calls::{Call, NAMES, WIDE};
+use crate::calls::{Call, FRESH, NAMES, WIDE, WIDE_FIRMWARE, WIDE_UNIT};
 use crate::compare::Wanted;
+use crate::firmware_sights::FirmwareTally;
+use crate::fresh::Fresh;
+use crate::fresh_sights::FreshTally;
 use crate::lent::Lent;
 use crate::poll_sights::PollSight;
 use crate::poll_tally::PollTally;
@@ -51,6 +54,8 @@ pub struct Tally {
     sights: [usize; SIGHTS.len()],
     /// How often the file that went round most in one list did so.
     pub most_rounds: usize,
+    freshes: FreshTally,
+    pub firmwares: FirmwareTally,
     pub alarms: AlarmTally,
     pub texts: TextTally,
     pub polls: PollTally,
@@ -61,9 +66,17 @@ pub struct Tally {
 }
 
 impl Tally {
+    pub fn count_fresh(&mut self, given: &Fresh, number: u8) {
+        self.answers[FRESH][number as usize] += 1;
+        self.wide[WIDE_UNIT] += u32::from(given.is_refused_for_a_wide_unit());
+        self.wide[WIDE_FIRMWARE] += u32::from(given.is_refused_for_a_wide_firmware());
+        self.freshes.count(given, number);
+    }
+
     pub fn count(&mut self, call: &Call, wanted: &Wanted, lent: &Lent) {
         let number = wanted.told.number;
         self.answers[call.kind()][number as usize] += 1;
+        self.firmwares.count(call, &wanted.state, number);
         if let Some(argument) = call.wide_argument().filter(|_| number > FOREIGN) {
             self.wide[argument] += 1;
         }
@@ -90,6 +103,7 @@ impl Tally {
         for (seen, (_, how_often)) in self.sights.iter_mut().zip(SIGHTS) {
             *seen += how_often(sight);
         }
+        self.firmwares.scanned(sight);
         self.alarms.logged(&sight.alarms());
         for (first, points) in sight.captured_groups() {
             self.texts.read(Way::Captured, sight.table, first, points);
@@ -99,14 +113,16 @@ impl Tally {
     /// A poll that was not refused.
     pub fn polled(&mut self, sight: &PollSight) {
         self.polls.polled(sight);
+        self.firmwares.polled(sight);
         if let Some(run) = sight.run().filter(|_| sight.is_live_reply()) {
             self.texts.read(Way::Polled, sight.table, run.first, run.quantity);
         }
     }
 
-    /// What the alarms, the texts and the polls have shown.
+    /// What Freshes, firmwares, the alarms, the texts and the polls have shown.
     fn shown(&self) -> impl Iterator<Item = (String, usize, usize)> {
-        self.alarms.seen().into_iter().chain(self.texts.seen()).chain(self.polls.seen())
+        let firmwares = self.freshes.seen().into_iter().chain(self.firmwares.seen());
+        firmwares.chain(self.alarms.seen()).chain(self.texts.seen()).chain(self.polls.seen())
     }
 
     /// What was hardly seen, of all that a whole run should see.

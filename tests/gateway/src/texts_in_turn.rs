@@ -4,10 +4,9 @@
 
 use gateway::ffi::{Seen, Slot, State};
 use gateway::live::{function_of, most_points};
-use gateway::states::{definitions_of, ZEROS};
+use gateway::states::{any_firmware, laid_out_bytes, ZEROS};
 use gateway::tables::Table;
 use model::frames::READ;
-use model::layout::layout_bytes;
 use model::machine::{BOOLEAN_BYTES, NUMBERED_RECORD};
 use model::points::{groups_from_first_place, Kind, Row, ROWS, TABLE_BYTES};
 use model::record::{Stamp, AUGUST};
@@ -75,10 +74,10 @@ fn tables() -> impl Iterator<Item = Vec<u8>> {
 
 /// A running gateway that remembers of every Boolean the other state than this table's: every trigger rises, and slots log falls
 /// and rises with transducers from the first float to the last.
-fn watching(table: &[u8]) -> State {
+fn watching(table: &[u8], firmware: u16) -> State {
     let now = booleans(table);
     let mut s = ZEROS;
-    (s.site.unit, s.flags.running) = (UNIT, true);
+    (s.site.unit, s.site.firmware, s.flags.running) = (UNIT, firmware, true);
     s.seen = Seen { scanned: true, booleans: (!now).to_le_bytes() };
     for (file, groups) in FILES.iter().enumerate() {
         s.files.layout.groups[32 * file..][..32].copy_from_slice(&groups_from_first_place(groups));
@@ -86,7 +85,7 @@ fn watching(table: &[u8]) -> State {
         s.settings.triggers[file] = 1801 + now.trailing_zeros() as u16;
     }
     s.settings.draft = s.files.layout;
-    s.site.archive_length = layout_bytes(&definitions_of(&s.files.layout)) as u32;
+    s.site.archive_length = laid_out_bytes(&s) as u32;
     for (place, slot) in (0..).zip(&mut s.settings.slots) {
         *slot = Slot { point: 1801 + 4 * place, transducer: 7101 + 127 * place / 31, kind: place % 4 };
     }
@@ -114,7 +113,8 @@ fn live_polls(table: &[u8]) -> Vec<Call> {
 /// Tells how many texts the table has.
 fn try_table(random: &mut Random, own: &mut Tally, table: Vec<u8>) -> Result<usize, String> {
     let before = Stamp { month: 2, day: 29, year: 4, ..AUGUST };
-    let mut list = List::over_old_records(random, watching(&table), Scan { table: table.clone(), stamp: before });
+    let state = watching(&table, any_firmware(random));
+    let mut list = List::over_old_records(random, state, Scan { table: table.clone(), stamp: before });
     let scan = Call::Scan { table: Table(table.clone()), stamp: AUGUST };
     for call in [scan].into_iter().chain(records()).chain(live_polls(&table)) {
         list.call(random, own, &call, NEVER)?;

@@ -7,7 +7,8 @@ use gateway::ffi::{self, Site, Slot, State};
 use gateway::states::{differences, raw_of, remembered_of, state_of, ZEROS};
 use model::card::{CLOCK, DONE, EMPTY, GARBLED};
 use model::frames::{read_reply, request, READ};
-use model::machine::{Machine, LEAST_ARCHIVE, LEAST_REPLY, NUMBERED_RECORD};
+use model::layout::FIRMWARE_74;
+use model::machine::{least_archive, Machine, LEAST_REPLY, NUMBERED_RECORD};
 use model::points::{STAMP_BYTES, TABLE_BYTES};
 use model::reader as model_reader;
 use model::record::{every_date, Stamp};
@@ -21,7 +22,7 @@ const EXISTING: usize = 36_525;
 const UNIT: u8 = 17;
 /// A stamp and a 16-bit point.
 const RECORD: usize = STAMP_BYTES + 2;
-const ARCHIVE: usize = LEAST_ARCHIVE + 2 * RECORD;
+const ARCHIVE: usize = least_archive(FIRMWARE_74) + 2 * RECORD;
 /// What archive memory holds before a scan, and a reply buffer as it is lent.
 const JUNK: u8 = 0xEE;
 /// The group numbers of a record that is a stamp only.
@@ -30,7 +31,7 @@ const BARE_STAMP: [u16; 32] = [0; 32];
 /// A running gateway that remembers Booleans which are all off. File 1 has two records, captured at a rise of 1801; slot 1 logs it.
 fn watching(day_first: bool) -> State {
     let mut s = ZEROS;
-    s.site = Site { archive_length: ARCHIVE as u32, unit: UNIT, day_first, reserved: 0 };
+    s.site = Site { archive_length: ARCHIVE as u32, unit: UNIT, day_first, firmware: FIRMWARE_74 };
     s.flags.running = true;
     s.seen.scanned = true;
     s.files.layout.groups[..2].copy_from_slice(&[3001, 1]);

@@ -4,13 +4,16 @@
 use gateway::ffi::{self, State};
 use gateway::states::ZEROS;
 use model::frames::{read_reply, request, READ};
-use model::machine::{LEAST_ARCHIVE, LEAST_REPLY, NUMBERED_RECORD};
+use model::layout::FIRMWARE_74;
+use model::machine::{least_archive, LEAST_REPLY, NUMBERED_RECORD};
 use model::points::{groups_from_first_place, record_size, row_of_point, STAMP_BYTES, TABLE_BYTES};
 use model::record::AUGUST;
 use model::texts::{captured_by_list, TEXTS};
 use reader::ffi::PointAnswer;
 
 const UNIT: u8 = 17;
+/// The bytes of the alarm file.
+const ALARM_FILE: usize = least_archive(FIRMWARE_74);
 /// What archive memory holds where nothing of ours was ever written.
 const JUNK: u8 = 0xEE;
 /// The first points of the text rows.
@@ -20,8 +23,8 @@ const TEXT_ROWS: [u16; 2] = [4001, 14001];
 fn watching(groups: &[(u16, u16)]) -> (State, Vec<u8>) {
     let mut s = ZEROS;
     let groups = groups_from_first_place(groups);
-    let length = record_size(&groups) + LEAST_ARCHIVE;
-    (s.site.unit, s.site.archive_length) = (UNIT, length as u32);
+    let length = record_size(&groups) + ALARM_FILE;
+    (s.site.unit, s.site.firmware, s.site.archive_length) = (UNIT, FIRMWARE_74, length as u32);
     (s.flags.running, s.seen.scanned, s.settings.triggers[0]) = (true, true, 1801);
     s.files.layout.groups[..32].copy_from_slice(&groups);
     s.files.layout.limits[0] = 1;
@@ -42,7 +45,7 @@ fn captured(table: &[u8], first: u16, points: u16) -> Vec<u8> {
     let answer = ffi::scan(s, &mut archive, &mut lent, AUGUST.into());
     assert_eq!((answer.number, answer.state.files.pointers[0]), (0, 1));
     assert!(lent == table, "the table was changed");
-    let (record, behind) = archive.split_at(archive.len() - LEAST_ARCHIVE);
+    let (record, behind) = archive.split_at(archive.len() - ALARM_FILE);
     assert!(behind.iter().all(|&byte| byte == JUNK), "more than the record was written");
     let (stamp, data) = record.split_at(STAMP_BYTES);
     assert_eq!(stamp, [8, 29, 7, 11, 36, 52]);

@@ -1,5 +1,6 @@
-//! Document 02, L4: scans with the alarm records that they log, in order. All
-//! of it is worked out by hand from the papers, for the model and the library.
+//! Document 02, L4: scans with the alarm records that they log, in order; and
+//! L8: where they go, by firmware. All of it is worked out by hand from the
+//! papers, for the model and the library.
 
 use crate::layout::ALARM_RECORD_BYTES;
 use crate::points::{ROWS, TABLE_BYTES};
@@ -80,16 +81,26 @@ pub const EDGES_FALL_AND_RISE: Case = Case {
     ],
 };
 
-/// The alarm file's pointer before that scan, and the records into which its
-/// six go: the file's end is behind them, anywhere among them, or before.
-pub const ABOUT_THE_END: [(u16, [usize; 6]); 7] = [
-    (494, [495, 496, 497, 498, 499, 500]),
-    (495, [496, 497, 498, 499, 500, 1]),
-    (496, [497, 498, 499, 500, 1, 2]),
-    (497, [498, 499, 500, 1, 2, 3]),
-    (498, [499, 500, 1, 2, 3, 4]),
-    (499, [500, 1, 2, 3, 4, 5]),
-    (500, [1, 2, 3, 4, 5, 6]),
+/// The firmware, the alarm file's pointer before that scan, and the records into
+/// which its six go: the file's end is behind them, anywhere among them, or
+/// before. Where it ends with 73 it goes on with 74.
+pub const ABOUT_THE_END: [(u16, u16, [usize; 6]); 16] = [
+    (73, 144, [145, 146, 147, 148, 149, 150]),
+    (73, 145, [146, 147, 148, 149, 150, 1]),
+    (73, 146, [147, 148, 149, 150, 1, 2]),
+    (73, 147, [148, 149, 150, 1, 2, 3]),
+    (73, 148, [149, 150, 1, 2, 3, 4]),
+    (73, 149, [150, 1, 2, 3, 4, 5]),
+    (73, 150, [1, 2, 3, 4, 5, 6]),
+    (74, 147, [148, 149, 150, 151, 152, 153]),
+    (74, 150, [151, 152, 153, 154, 155, 156]),
+    (74, 494, [495, 496, 497, 498, 499, 500]),
+    (74, 495, [496, 497, 498, 499, 500, 1]),
+    (74, 496, [497, 498, 499, 500, 1, 2]),
+    (74, 497, [498, 499, 500, 1, 2, 3]),
+    (74, 498, [499, 500, 1, 2, 3, 4]),
+    (74, 499, [500, 1, 2, 3, 4, 5]),
+    (74, 500, [1, 2, 3, 4, 5, 6]),
 ];
 
 /// All slots in use, in turn on the last point and on the first.

@@ -1,7 +1,9 @@
-//! Document 01, "Numbers on the service card", row 2: whether a stored state
-//! is Foreign. Any content of the fields may be judged.
+//! Document 01, "Numbers on the service card", row 2, and document 02, L8:
+//! whether a stored state is Foreign. Any content of the fields may be judged.
 
-use crate::layout::{layout_bytes, most_records, Definition, Definitions, ALARM_FILE, USER_FILES};
+use crate::layout::{
+    layout_bytes, most_records, Definition, Definitions, ALARM_FILE, FIRMWARES, USER_FILES,
+};
 use crate::points::{is_boolean_or_none, is_float_or_none, judge_definition, GROUP_NUMBERS};
 
 /// The numbers of all ten files' groups, file after file.
@@ -12,6 +14,7 @@ pub const ALL_GROUP_NUMBERS: usize = USER_FILES * GROUP_NUMBERS;
 pub struct RawState {
     pub day_first: bool,
     pub unit: u8,
+    pub firmware: u16,
     pub archive_len: u32,
     pub running: bool,
     pub unlocked: bool,
@@ -35,6 +38,11 @@ pub const MOST_UNIT: u8 = 247;
 /// Whether a unit is one that may be ours.
 pub fn unit_is_ours(unit: u32) -> bool {
     (LEAST_UNIT.into()..=MOST_UNIT.into()).contains(&unit)
+}
+
+/// Whether a firmware is in use, 73 or 74; "any other is Foreign (2)".
+pub fn firmware_is_in_use(firmware: u32) -> bool {
+    FIRMWARES.map(u32::from).contains(&firmware)
 }
 
 /// A slot's entry: a Boolean point or 0, type 0-3, a float point or 0, each
@@ -71,7 +79,7 @@ fn any_slot_is_bad(raw: &RawState) -> bool {
 
 fn any_number_is_over_n(raw: &RawState, laid_out: &Definitions) -> bool {
     (1..=ALARM_FILE).any(|file| {
-        let n = most_records(laid_out, file);
+        let n = most_records(laid_out, raw.firmware, file);
         raw.pointers[file - 1] > n || raw.requested[file - 1] > n
     })
 }
@@ -91,36 +99,60 @@ pub fn foreign(raw: &RawState) -> bool {
         || any_definition_is_bad(&laid_out)
         || bad_trigger
         || any_slot_is_bad(raw)
-        || layout_bytes(&laid_out) > u64::from(raw.archive_len)
+        || layout_bytes(&laid_out, raw.firmware) > u64::from(raw.archive_len)
         || any_number_is_over_n(raw, &laid_out)
         || !unit_is_ours(raw.unit.into())
+        || !firmware_is_in_use(raw.firmware.into())
 }
 
 #[cfg(test)]
 mod tests {
     use super::*;
+    use crate::depths::DEPTHS;
     use crate::machine::Machine;
 
-    fn valid() -> RawState {
-        Machine::fresh(11_006, false, 1).1.raw_state()
+    /// A fresh state, with room for one bare stamp.
+    fn valid(firmware: u16) -> RawState {
+        let length = if firmware == 73 { 3_306 } else { 11_006 };
+        let (answer, machine) = Machine::fresh(length, false, 1, firmware.into());
+        assert!(answer.is_done());
+        machine.raw_state()
     }
 
     fn is_foreign_after(change: impl Fn(&mut RawState)) -> bool {
-        let mut raw = valid();
+        is_foreign_in(74, change)
+    }
+
+    fn is_foreign_in(firmware: u16, change: impl Fn(&mut RawState)) -> bool {
+        let mut raw = valid(firmware);
         change(&mut raw);
         foreign(&raw)
     }
 
     #[test]
     fn a_fresh_state_is_ours() {
-        assert!(!foreign(&valid()));
+        assert!(!foreign(&valid(73)));
+        assert!(!foreign(&valid(74)));
     }
 
     #[test]
     fn a_state_of_zeros_is_foreign() {
-        let (answer, zeros) = Machine::fresh(11_000, false, 0);
+        let (answer, zeros) = Machine::fresh(11_000, false, 0, 74);
         assert_eq!(answer.number, 2);
         assert!(foreign(&zeros.raw_state()));
+    }
+
+    /// Memory is enough for any depth.
+    #[test]
+    fn firmware() {
+        let with = |firmware: u16| {
+            is_foreign_after(|raw| {
+                raw.archive_len = 1_048_576;
+                raw.firmware = firmware;
+            })
+        };
+        let ours = (0..=65_535).filter(|&firmware| !with(firmware));
+        assert!(ours.eq([73, 74]));
     }
 
     #[test]
@@ -168,6 +200,22 @@ mod tests {
     }
 
     #[test]
+    fn a_layout_over_memory_by_the_depth_of_its_firmware() {
+        assert!(!is_foreign_in(73, |raw| raw.n[0] = 1));
+        assert!(is_foreign_in(73, |raw| raw.n[0] = 2));
+        assert!(!is_foreign_in(73, |raw| raw.archive_len = 3_300));
+        assert!(is_foreign_in(73, |raw| raw.archive_len = 3_299));
+        assert!(is_foreign_in(73, |raw| raw.firmware = 74));
+        // 1,283 bare stamps fill 7,698 bytes
+        let large = |raw: &mut RawState| (raw.archive_len, raw.n[0]) = (10_998, 1_283);
+        assert!(!is_foreign_in(73, large));
+        assert!(is_foreign_in(74, large));
+        let enough = |raw: &mut RawState| (raw.archive_len, raw.n[0]) = (18_698, 1_283);
+        assert!(!is_foreign_in(73, enough));
+        assert!(!is_foreign_in(74, enough));
+    }
+
+    #[test]
     fn triggers_and_slots() {
         assert!(is_foreign_after(|raw| raw.triggers[9] = 1929));
         assert!(!is_foreign_after(|raw| raw.triggers[9] = 1928));
@@ -186,5 +234,23 @@ mod tests {
         assert!(is_foreign_after(|raw| raw.pointers[10] = 501));
         assert!(!is_foreign_after(|raw| raw.requested[10] = 500));
         assert!(is_foreign_after(|raw| raw.requested[10] = 501));
+    }
+
+    /// Those of the alarm file, with memory that is enough for any depth.
+    #[test]
+    fn alarm_numbers_over_the_depth_of_the_firmware() {
+        for (firmware, depth) in DEPTHS {
+            for number in (0..=502).chain([65_535]) {
+                let is_over = number > depth;
+                let with = |change: fn(&mut RawState, u16)| {
+                    is_foreign_in(firmware, |raw| {
+                        raw.archive_len = 11_006;
+                        change(raw, number);
+                    })
+                };
+                assert_eq!(with(|raw, number| raw.pointers[10] = number), is_over);
+                assert_eq!(with(|raw, number| raw.requested[10] = number), is_over);
+            }
+        }
     }
 }

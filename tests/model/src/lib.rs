@@ -8,6 +8,7 @@
 pub mod alarm_orders;
 pub mod card;
 pub mod crc;
+pub mod depths;
 pub mod foreign;
 pub mod frames;
 pub mod layout;

@@ -1,6 +1,6 @@
-//! Document 01, "The plain machine": the state and the calls that set it.
-//! Scans, polls and the archive worked out from the lists are below
-//! `src/machine/`.
+//! Document 01, "The plain machine": the state and the calls that set it;
+//! document 02, L8, for the firmware. Scans, polls and the archive worked out
+//! from the lists are below `src/machine/`.
 //!
 //! Every call is lent archive memory and takes its length, so Memory (1)
 //! applies to each. Numbers that the service card judges may be of any size;
@@ -18,11 +18,14 @@ pub use poll::{
     NUMBERED_STAMP, REGISTERS_A_FILE, REQUESTED_RECORD, REQUESTED_STAMP,
 };
 
-use crate::card::{self, lowest, Answer};
+use crate::card::{self, lowest, Answer, Refusal};
 use crate::foreign::{
-    definitions, foreign, slot_entry_is_good, unit_is_ours, RawState, ALL_GROUP_NUMBERS,
+    definitions, firmware_is_in_use, foreign, slot_entry_is_good, unit_is_ours, RawState,
+    ALL_GROUP_NUMBERS,
 };
-use crate::layout::{layout_bytes, record_bytes, Definition, Definitions, ALARM_FILE, USER_FILES};
+use crate::layout::{
+    layout_bytes, record_bytes, Definition, Definitions, ALARM_FILE, FIRMWARE_73, USER_FILES,
+};
 use crate::points::{is_boolean_or_none, judge_definition, GROUP_NUMBERS};
 use crate::record::Slot;
 
@@ -30,9 +33,18 @@ use crate::record::Slot;
 pub const SLOTS: usize = 32;
 /// The bytes of the 128 Booleans at the head of the live table.
 pub const BOOLEAN_BYTES: usize = 16;
-/// The archive lengths that Fresh takes.
-pub const LEAST_ARCHIVE: usize = 11_000;
+/// Fresh takes an archive of up to so many bytes.
 pub const MOST_ARCHIVE: usize = 1_048_576;
+
+/// And from so many on: 11,000, but "Memory (1) starts at 3,300 bytes for 73"
+/// (document 02, L8).
+pub const fn least_archive(firmware: u16) -> usize {
+    if firmware == FIRMWARE_73 {
+        3_300
+    } else {
+        11_000
+    }
+}
 
 const SLOT_OFF: Slot = Slot {
     point: 0,
@@ -48,6 +60,7 @@ const SLOT_OFF: Slot = Slot {
 pub struct Machine {
     day_first: bool,
     unit: u8,
+    firmware: u16,
     archive_len: usize,
     running: bool,
     unlocked: bool,
@@ -63,10 +76,11 @@ pub struct Machine {
 }
 
 /// What Fresh makes, whatever it was given.
-fn all_off(archive_len: usize, day_first: bool, unit: u8) -> Machine {
+fn all_off(archive_len: usize, day_first: bool, unit: u8, firmware: u16) -> Machine {
     Machine {
         day_first,
         unit,
+        firmware,
         archive_len,
         running: false,
         unlocked: false,
@@ -87,19 +101,33 @@ fn is_user_file(file: usize) -> bool {
     (1..=USER_FILES).contains(&file)
 }
 
+/// What Fresh is refused for. A firmware that is not in use is "the one check
+/// before Memory"; then the lowest that applies is answered.
+fn judge_fresh(archive_len: usize, unit: u32, firmware: u32) -> Result<(), Refusal> {
+    if !firmware_is_in_use(firmware) {
+        return Err(Refusal::plain(card::FOREIGN));
+    }
+    let lengths = least_archive(firmware as u16)..=MOST_ARCHIVE;
+    lowest(&[
+        (card::MEMORY, !lengths.contains(&archive_len)),
+        (card::FOREIGN, !unit_is_ours(unit)),
+    ])
+}
+
 /// The calls.
 impl Machine {
     /// Fresh. A refused Fresh hands back a state of zeros, which refuses
     /// every call.
-    pub fn fresh(archive_len: usize, day_first: bool, unit: u32) -> (Answer, Machine) {
-        let length_is_good = (LEAST_ARCHIVE..=MOST_ARCHIVE).contains(&archive_len);
-        let checked = lowest(&[
-            (card::MEMORY, !length_is_good),
-            (card::FOREIGN, !unit_is_ours(unit)),
-        ]);
+    pub fn fresh(
+        archive_len: usize,
+        day_first: bool,
+        unit: u32,
+        firmware: u32,
+    ) -> (Answer, Machine) {
+        let checked = judge_fresh(archive_len, unit, firmware);
         let machine = match checked {
-            Ok(()) => all_off(archive_len, day_first, unit as u8),
-            Err(_) => all_off(0, false, 0),
+            Ok(()) => all_off(archive_len, day_first, unit as u8, firmware as u16),
+            Err(_) => all_off(0, false, 0, 0),
         };
         (checked.into(), machine)
     }
@@ -114,8 +142,9 @@ impl Machine {
         memory: &[u8],
     ) -> Machine {
         assert!(!foreign(raw), "a Foreign state is not taken");
-        assert_eq!(memory.len(), raw.archive_len as usize, "another length");
-        let mut machine = all_off(raw.archive_len as usize, raw.day_first, raw.unit);
+        let length = raw.archive_len as usize;
+        assert_eq!(memory.len(), length, "another length");
+        let mut machine = all_off(length, raw.day_first, raw.unit, raw.firmware);
         machine.running = raw.running;
         machine.unlocked = raw.unlocked;
         machine.pending = raw.pending;
@@ -180,7 +209,7 @@ impl Machine {
     /// Start: running on, unlocked off; if pending, the draft becomes the
     /// layout and every file is emptied.
     pub fn start(&mut self, archive_len: usize) -> Answer {
-        let over_memory = layout_bytes(&self.drafts) > self.archive_len as u64;
+        let over_memory = layout_bytes(&self.drafts, self.firmware) > self.archive_len as u64;
         let checked = lowest(&[
             (card::MEMORY, archive_len != self.archive_len),
             (card::FOREIGN, self.is_foreign()),
@@ -261,9 +290,9 @@ impl Machine {
 /// What the calls use.
 impl Machine {
     /// The machine's own state is valid, but for the state of zeros that a
-    /// refused Fresh hands back: its unit is Foreign.
+    /// refused Fresh hands back: its unit and its firmware are Foreign.
     fn is_foreign(&self) -> bool {
-        !unit_is_ours(self.unit.into())
+        !unit_is_ours(self.unit.into()) || !firmware_is_in_use(self.firmware.into())
     }
 
     fn lay_out_draft(&mut self) {
@@ -312,6 +341,7 @@ impl Machine {
         RawState {
             day_first: self.day_first,
             unit: self.unit,
+            firmware: self.firmware,
             archive_len: self.archive_len as u32,
             running: self.running,
             unlocked: self.unlocked,

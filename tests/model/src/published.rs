@@ -4,7 +4,7 @@
 //! in Python.
 
 use crate::foreign::RawState;
-use crate::machine::{Machine, LEAST_ARCHIVE};
+use crate::machine::{least_archive, Machine};
 use crate::points::{ROWS, TABLE_BYTES};
 
 /// MODBUS over Serial Line, Specification and Implementation Guide V1.02.
@@ -129,16 +129,17 @@ impl Exchange {
         bytes(self.reply)
     }
 
-    /// The gateway's state and its archive memory, whose first bytes are
-    /// those of `THREE_REGISTERS`.
-    pub fn stands(&self) -> (RawState, Vec<u8>) {
+    /// The state of a gateway with this firmware, and its archive memory, whose
+    /// first bytes are those of `THREE_REGISTERS`.
+    pub fn stands(&self, firmware: u16) -> (RawState, Vec<u8>) {
         let bare_stamp = 6;
         let [n, pointer, requested] = match self.gateway {
             Gateway::Idle => [0, 0, 0],
             Gateway::Registers(registers) => registers,
         };
-        let length = LEAST_ARCHIVE + bare_stamp * usize::from(n);
-        let (answer, machine) = Machine::fresh(length, false, self.request()[0].into());
+        let length = least_archive(firmware) + bare_stamp * usize::from(n);
+        let unit = self.request()[0];
+        let (answer, machine) = Machine::fresh(length, false, unit.into(), firmware.into());
         assert!(answer.is_done());
         let mut raw = machine.raw_state();
         (raw.n[0], raw.pointers[0], raw.requested[0]) = (n, pointer, requested);
@@ -153,18 +154,20 @@ mod tests {
     use super::*;
     use crate::card::Answer;
     use crate::crc::checks;
+    use crate::layout::FIRMWARES;
 
     #[test]
-    fn polls_are_answered_as_published() {
+    fn polls_are_answered_as_published_whatever_the_firmware() {
         for exchange in &EXCHANGES {
             let (request, wanted) = (exchange.request(), exchange.reply());
             assert!(checks(&request) && checks(&wanted), "{}", exchange.source);
-            let (raw, memory) = exchange.stands();
-            let mut machine = Machine::standing(&raw, None, &memory);
-            let (table, mut reply) = (live_table(), [0xAA; 256]);
-            let (answer, length) = machine.poll(memory.len(), &table, &request, &mut reply);
-            assert_eq!(answer, Answer::DONE);
-            assert_eq!(reply[..length], wanted, "{}", exchange.source);
+            for (raw, memory) in FIRMWARES.map(|firmware| exchange.stands(firmware)) {
+                let mut machine = Machine::standing(&raw, None, &memory);
+                let (table, mut reply) = (live_table(), [0xAA; 256]);
+                let (answer, length) = machine.poll(memory.len(), &table, &request, &mut reply);
+                assert_eq!(answer, Answer::DONE);
+                assert_eq!(reply[..length], wanted, "{}", exchange.source);
+            }
         }
     }
 }

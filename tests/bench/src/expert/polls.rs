@@ -3,7 +3,7 @@
 use ::gateway::ffi::State;
 
 use super::crc::crc;
-use super::gateway::{judge, Sizes, ALARMS, FILES};
+use super::gateway::{alarms, judge, Sizes, FILES};
 use super::points::{Kind, Row};
 use super::records::{write_points, Table, ALARM_BYTES};
 
@@ -113,7 +113,7 @@ fn live(table: &Table, booleans: bool, first: u16, points: u16, reply: &mut [u8;
 }
 
 fn limit(s: &State, file: usize) -> u16 {
-    s.files.layout.limits.get(file).copied().unwrap_or(ALARMS)
+    s.files.layout.limits.get(file).copied().unwrap_or_else(|| alarms(s))
 }
 
 /// Copies record k of a file, counted from 0, or its stamp, and tells its length.

@@ -2,10 +2,11 @@
 
 use ::gateway::ffi::{self, Answer, State};
 use ::gateway::frames::{any_frame, any_room};
+use ::gateway::rows::limit_of;
 use ::gateway::states::{damage, definitions_of, standing, CLAUSES};
 use ::gateway::tables::Table;
 use model::frames::read_reply;
-use model::layout::{file_start, ALARM_FILE, ALARM_RECORDS, ALARM_RECORD_BYTES};
+use model::layout::{file_start, ALARM_FILE, ALARM_RECORD_BYTES, FIRMWARES};
 use model::points::{row_of_point, STAMP_BYTES};
 use model::record::{captured_record, every_date, Stamp, AUGUST};
 use reader::random::{groups, stamp, Random};
@@ -64,15 +65,20 @@ fn lock_and_scan_are_the_librarys() {
 fn first_and_last_bit(before: &State, after: &State, archive: &[u8]) -> Option<[u8; 2]> {
     let file = file_start(&definitions_of(&before.files.layout), ALARM_FILE) as usize;
     let bit = |k: u16| archive[file + usize::from(k - 1) * ALARM_RECORD_BYTES + 9];
-    let [old, new] = [before, after].map(|s| s.files.pointers[ALARM_FILE - 1]);
-    (old != new).then(|| [old % ALARM_RECORDS + 1, new].map(bit))
+    let [old, new] = [before, after].map(alarm_pointer);
+    (old != new).then(|| [old % limit_of(before, ALARM_FILE) + 1, new].map(bit))
 }
 
-/// Random Booleans: of most states some slots' points fall while others rise, and the falls are logged first.
+fn alarm_pointer(s: &State) -> u16 {
+    s.files.pointers[ALARM_FILE - 1]
+}
+
+/// Random Booleans: of most states some slots' points fall while others rise, and the falls are logged first. With either firmware
+/// some files go round.
 #[test]
 fn alarms_are_the_librarys() {
     let mut random = Random::new(4);
-    let mut cleared_and_raised = 0;
+    let (mut cleared_and_raised, mut gone_round) = (0, [0; FIRMWARES.len()]);
     for _ in 0..ROUNDS {
         let mut s = standing(&mut random);
         (s.flags.running, s.flags.unlocked, s.seen.scanned) = (true, false, true);
@@ -80,8 +86,12 @@ fn alarms_are_the_librarys() {
         let wanted = scan_both(s, &mut archive, &mut live_table(&mut random), AUGUST);
         let bits = first_and_last_bit(&s, &wanted.state, &archive);
         cleared_and_raised += usize::from(bits == Some([0, 1]));
+        for (seen, firmware) in gone_round.iter_mut().zip(FIRMWARES) {
+            *seen += usize::from(s.site.firmware == firmware && alarm_pointer(&wanted.state) < alarm_pointer(&s));
+        }
     }
     assert!(cleared_and_raised > ROUNDS / 2, "{cleared_and_raised} scans that cleared and raised alarms");
+    assert!(gone_round.iter().all(|&files| files > ROUNDS / 20), "{gone_round:?} alarm files that went round");
 }
 
 /// A random run of texts in one of their rows, of up to 240 bytes.

@@ -11,9 +11,12 @@ use model::frames::{
     exception_name, ILLEGAL_ADDRESS, ILLEGAL_FUNCTION, ILLEGAL_VALUE, LONGEST_FRAME, MOST_DATA,
     READ, READ_BOOLEANS, REQUEST_BYTES, WRITE,
 };
-use model::layout::{ALARM_FILE, ALARM_RECORDS, ALARM_RECORD_BYTES, MOST_RECORDS, USER_FILES};
+use model::layout::{
+    alarm_records, ALARM_FILE, ALARM_RECORD_BYTES, FIRMWARES, FIRMWARE_73, FIRMWARE_74,
+    MOST_RECORDS, USER_FILES,
+};
 use model::machine::{
-    requested_register, Machine, BOOLEAN_BYTES, FIRST_REGISTER, LAST_REGISTER, LEAST_ARCHIVE,
+    least_archive, requested_register, Machine, BOOLEAN_BYTES, FIRST_REGISTER, LAST_REGISTER,
     LEAST_REPLY, MOST_ARCHIVE, NUMBERED_RECORD, NUMBERED_STAMP, REGISTERS_A_FILE, REQUESTED_RECORD,
     REQUESTED_STAMP, SLOTS,
 };
@@ -31,11 +34,12 @@ fn show(name: &str, value: impl TryInto<u64>) {
 /// What is stored of the plain machine's state: a byte a flag, two bytes a
 /// number but for the unit's one and the archive length's four, for each
 /// file the pointer in place of its list, and whether there was a scan
-/// before its Booleans. Two reserved bytes fill the struct up.
+/// before its Booleans.
 fn state_bytes() -> usize {
     let RawState {
         day_first,
         unit,
+        firmware,
         archive_len,
         running,
         unlocked,
@@ -50,15 +54,25 @@ fn state_bytes() -> usize {
         slot_float,
         pointers,
         requested,
-    } = Machine::fresh(LEAST_ARCHIVE, false, 1).1.raw_state();
-    let site = size_of_val(&day_first) + size_of_val(&unit) + size_of_val(&archive_len);
+    } = Machine::fresh(MOST_ARCHIVE, false, 1, FIRMWARE_74.into())
+        .1
+        .raw_state();
+    let order_and_unit = size_of_val(&day_first) + size_of_val(&unit);
+    let site = order_and_unit + size_of_val(&firmware) + size_of_val(&archive_len);
     let flags = size_of_val(&running) + size_of_val(&unlocked) + size_of_val(&pending);
     let drafts = size_of_val(&draft_groups) + size_of_val(&draft_n);
     let layout = size_of_val(&groups) + size_of_val(&n);
     let slots = size_of_val(&slot_point) + size_of_val(&slot_kind) + size_of_val(&slot_float);
     let files = size_of_val(&pointers) + size_of_val(&requested);
-    let (reserved, seen) = (2, 1 + BOOLEAN_BYTES);
-    site + reserved + flags + seen + drafts + layout + size_of_val(&triggers) + slots + files
+    let seen = 1 + BOOLEAN_BYTES;
+    site + flags + seen + drafts + layout + size_of_val(&triggers) + slots + files
+}
+
+/// What a number is for each firmware in use.
+fn show_by_firmware<T: TryInto<u64>>(name: &str, value: impl Fn(u16) -> T) {
+    for firmware in FIRMWARES {
+        show(&format!("{name} {firmware}"), value(firmware));
+    }
 }
 
 fn limits() {
@@ -67,13 +81,15 @@ fn limits() {
     show("FILES", USER_FILES);
     show("ALARM_FILE", ALARM_FILE);
     show("MOST_RECORDS", MOST_RECORDS);
-    show("ALARM_RECORDS", ALARM_RECORDS);
+    show("FIRMWARE_73", FIRMWARE_73);
+    show("FIRMWARE_74", FIRMWARE_74);
+    show_by_firmware("ALARM_RECORDS", alarm_records);
     show("ALARM_SLOTS", SLOTS);
     show("TABLE_BYTES", TABLE_BYTES);
     show("STAMP_BYTES", STAMP_BYTES);
     show("LONGEST_RECORD", LONGEST_RECORD);
     show("ALARM_BYTES", ALARM_RECORD_BYTES);
-    show("LEAST_ARCHIVE", LEAST_ARCHIVE);
+    show_by_firmware("LEAST_ARCHIVE", least_archive);
     show("MOST_ARCHIVE", MOST_ARCHIVE);
     show("CENTURY", CENTURY);
     show("STATE_BYTES", state_bytes());

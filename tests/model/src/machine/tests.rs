@@ -1,16 +1,17 @@
 //! The marked cases (*) and known blunders of document 01 that are about
 //! the machine, and the rules of each call; live points of document 02, L3, the
-//! order of alarms, L4, and clean text, L5.
+//! order of alarms, L4, clean text, L5, and alarm depth by firmware, L8.
 
 use super::*;
 use crate::alarm_orders::table_with;
-use crate::card::Refusal;
 use crate::crc;
 use crate::frames::request;
+use crate::layout::FIRMWARES;
 use crate::points::{groups_from_first_place, TABLE_BYTES};
 use crate::record::{february, Stamp, AUGUST};
 
 mod alarms;
+mod firmware;
 mod frames;
 mod live;
 mod mixed_run;
@@ -33,7 +34,11 @@ fn at_second(second: u8) -> Stamp {
 }
 
 fn fresh() -> Machine {
-    let (answer, machine) = Machine::fresh(ARCHIVE, false, UNIT.into());
+    fresh_of(74)
+}
+
+fn fresh_of(firmware: u16) -> Machine {
+    let (answer, machine) = Machine::fresh(ARCHIVE, false, UNIT.into(), firmware.into());
     assert!(answer.is_done());
     machine
 }

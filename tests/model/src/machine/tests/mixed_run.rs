@@ -74,10 +74,9 @@ fn reads_agree_with_memory(machine: &Machine) {
     }
 }
 
-#[test]
-fn a_long_mixed_run() {
+fn mixed_run(firmware: u16) {
     let mut mixer = Mixer(2007);
-    let mut machine = fresh();
+    let mut machine = fresh_of(firmware);
     let (mut refusals, mut captured) = (0, 0);
     for call in 0..4000 {
         let before = machine.clone();
@@ -96,9 +95,13 @@ fn a_long_mixed_run() {
 }
 
 #[test]
-fn a_machine_taken_as_it_stands_goes_on_as_it_was() {
+fn a_long_mixed_run() {
+    FIRMWARES.into_iter().for_each(mixed_run);
+}
+
+fn taken_and_gone_on_with(firmware: u16) {
     let mut mixer = Mixer(2008);
-    let mut machine = fresh();
+    let mut machine = fresh_of(firmware);
     for _ in 0..40 {
         let memory = machine.archive_memory();
         let mut taken = Machine::standing(&machine.raw_state(), machine.remembered(), &memory);
@@ -111,4 +114,9 @@ fn a_machine_taken_as_it_stands_goes_on_as_it_was() {
         }
         assert_eq!(taken.archive_memory(), machine.archive_memory());
     }
+}
+
+#[test]
+fn a_machine_taken_as_it_stands_goes_on_as_it_was() {
+    FIRMWARES.into_iter().for_each(taken_and_gone_on_with);
 }

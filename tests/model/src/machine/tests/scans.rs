@@ -162,7 +162,7 @@ fn a_clock_may_go_back() {
 
 #[test]
 fn a_day_first_gateway_stamps_day_first() {
-    let mut machine = Machine::fresh(ARCHIVE, true, UNIT.into()).1;
+    let mut machine = Machine::fresh(ARCHIVE, true, UNIT.into(), 74).1;
     done(machine.alarm(ARCHIVE, 1, FLAG.into(), 1, 0));
     done(machine.start(ARCHIVE));
     capture(&mut machine, 1);

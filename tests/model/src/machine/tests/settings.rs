@@ -1,12 +1,14 @@
 //! Fresh, Unlock, Lock, Stop, Start, Define, Trigger and Alarm.
 
 use super::*;
+use crate::depths::DEPTHS;
 
-/// * Memory 11,006: one file of one bare stamp starts; 11,005: 11.
+/// * Memory 11,006: one file of one bare stamp starts; 11,005: 11. Document 02,
+///   L8: "the marked memory cases are for 74".
 #[test]
 fn marked_room_for_one_bare_stamp() {
     for (length, number) in [(11_006, 0), (11_005, 11)] {
-        let mut machine = Machine::fresh(length, false, 1).1;
+        let mut machine = Machine::fresh(length, false, 1, 74).1;
         done(machine.unlock(length));
         done(machine.define(length, 1, &[0; 32], 1));
         let before = machine.clone();
@@ -35,31 +37,33 @@ fn room_is_judged_of_the_draft_and_only_when_pending() {
 #[test]
 fn fresh_judges_length_then_unit() {
     for length in [0, 10_999, 1_048_577] {
-        refused(Machine::fresh(length, false, 0).0, 1);
+        refused(Machine::fresh(length, false, 0, 74).0, 1);
     }
     for length in [11_000, 1_048_576] {
-        done(Machine::fresh(length, true, 247).0);
+        done(Machine::fresh(length, true, 247, 74).0);
     }
-    refused(Machine::fresh(11_000, false, 0).0, 2);
-    refused(Machine::fresh(11_000, false, 248).0, 2);
-    refused(Machine::fresh(11_000, false, 257).0, 2);
+    refused(Machine::fresh(11_000, false, 0, 74).0, 2);
+    refused(Machine::fresh(11_000, false, 248, 74).0, 2);
+    refused(Machine::fresh(11_000, false, 257, 74).0, 2);
 }
 
 #[test]
 fn a_fresh_machine_is_all_off_and_zeros() {
-    let machine = fresh();
-    assert!(!machine.running() && !machine.unlocked() && !machine.pending());
-    assert_eq!(machine.archive_memory(), vec![0; ARCHIVE]);
-    for file in 1..=11 {
-        assert_eq!((machine.pointer(file), machine.requested(file)), (0, 0));
-        let n = if file == 11 { 500 } else { 0 };
-        assert_eq!(machine.laid_out_n(file), n);
+    for (firmware, depth) in DEPTHS {
+        let machine = fresh_of(firmware);
+        assert!(!machine.running() && !machine.unlocked() && !machine.pending());
+        assert_eq!(machine.archive_memory(), vec![0; ARCHIVE]);
+        for file in 1..=11 {
+            assert_eq!((machine.pointer(file), machine.requested(file)), (0, 0));
+            let n = if file == 11 { depth } else { 0 };
+            assert_eq!(machine.laid_out_n(file), n);
+        }
     }
 }
 
 #[test]
 fn the_zeros_of_a_refused_fresh_refuse_every_call() {
-    let mut zeros = Machine::fresh(5, false, 1).1;
+    let mut zeros = Machine::fresh(5, false, 1, 74).1;
     let before = zeros.clone();
     refused(zeros.unlock(0), 2);
     refused(zeros.lock(0), 2);

@@ -77,18 +77,21 @@ fn an_old_record_of_an_impossible_day_is_polled_as_it_stands() {
 
 #[test]
 fn an_alarm_file_wraps_inside_one_scan() {
-    let mut raw = fresh().raw_state();
-    raw.running = true;
-    raw.pointers[10] = 499;
-    raw.slot_point[..3].copy_from_slice(&[1803, 1802, 1801]);
-    let mut machine = Machine::standing(&raw, Some([0; BOOLEAN_BYTES]), &[JUNK; ARCHIVE]);
-    scan(&mut machine, &[1801, 1802, 1803], 9);
-    assert_eq!(machine.pointer(11), 2);
-    let memory = machine.archive_memory();
-    let low_byte_of_point = |k: usize| memory[(k - 1) * 22 + 7];
-    assert_eq!([500, 1, 2].map(low_byte_of_point), [0x09, 0x0A, 0x0B]);
-    assert!(memory[2 * 22..499 * 22].iter().all(|&byte| byte == JUNK));
-    assert!(memory[500 * 22..].iter().all(|&byte| byte == JUNK));
+    for (firmware, last) in [(73, 150), (74, 500)] {
+        let mut raw = fresh_of(firmware).raw_state();
+        raw.running = true;
+        raw.pointers[10] = last as u16 - 1;
+        raw.slot_point[..3].copy_from_slice(&[1803, 1802, 1801]);
+        let mut machine = Machine::standing(&raw, Some([0; BOOLEAN_BYTES]), &[JUNK; ARCHIVE]);
+        scan(&mut machine, &[1801, 1802, 1803], 9);
+        assert_eq!(machine.pointer(11), 2);
+        let memory = machine.archive_memory();
+        let low_byte_of_point = |k: usize| memory[(k - 1) * 22 + 7];
+        assert_eq!([last, 1, 2].map(low_byte_of_point), [0x09, 0x0A, 0x0B]);
+        let between = &memory[2 * 22..(last - 1) * 22];
+        let behind = &memory[last * 22..];
+        assert!([between, behind].concat().iter().all(|&byte| byte == JUNK));
+    }
 }
 
 #[test]
