@@ -53,8 +53,8 @@ static void load_pair(struct store *store, const char *state_path, const char *a
     store->scans = 0;
 }
 
-/* Ends the program where the library refuses the state, after telling why. One that is not out of a store tells no format. */
-static void want_good(const struct store *store, bool is_alone)
+/* Ends the program where the library refuses the state, after telling why. One that is raw, out of no store, names no format. */
+static void want_good(const struct store *store, bool is_raw)
 {
     struct windrow_state state = store->state;
     uint32_t number = windrow_lock(&state, store->archive, store->archive_length);
@@ -67,7 +67,7 @@ static void want_good(const struct store *store, bool is_alone)
     complain("the state is refused: %s:", card_text(text, number));
     if (tell_clauses(stderr, &store->state, store->archive, store->archive_length) == 0)
         fprintf(stderr, "  by several parts together\n");
-    if (is_alone && store->state.site.firmware == 0)
+    if (is_raw && store->state.site.firmware == 0 && store->state.site.unit != 0)
         fprintf(stderr, "  (a state that releases 1 and 2 saved has firmware 0: --format 1 takes such a one)\n");
     exit(EXIT_TROUBLE);
 }

@@ -22,7 +22,7 @@ static const char help[] =
     "\n"
     "  --settings FILE   a gateway's settings: says what it answers to a request, as long as nothing is captured or requested\n"
     "  --firmware N      the gateway's firmware, 73 or 74, instead of the settings' line; without settings it says what every\n"
-    "                    gateway of that firmware answers, also of the alarm file, which has 150 records or 500\n"
+    "                    gateway of that firmware answers, also to polls of its 150 or 500 alarm records by number\n"
     "  --file F          the frame is a reply with a record of file F, 1-11, or with its stamp: takes it apart by the settings\n"
     "  --live POINT      the frame is a reply with live points from POINT on: takes it apart. Of flags, which come eight to a\n"
     "                    byte, the last ones may not have been asked for\n"
@@ -301,7 +301,7 @@ static bool is_of_alarm(uint8_t function, unsigned address)
 
 /*
  * Whether every gateway answers a request like this, with as many bytes or the same exception: registers, live points, and what
- * none knows; where the firmware is given, the alarm file too. Other records depend on a gateway's files.
+ * none knows; where the firmware is given, alarm records by number too. Others depend on a gateway's files or requested numbers.
  */
 static bool is_answered_alike(const struct frame *frame, uint32_t exception, bool has_firmware)
 {

@@ -158,7 +158,7 @@ static void take_firmware(const struct line *line)
 {
     struct settings *settings = line->settings;
     uint32_t firmware = number(line, line->words[1], 0, UINT32_MAX);
-    if (settings->firmware_by == settings->path)
+    if (!settings->has_firmware_option)
         settings->firmware = firmware;
 }
 
@@ -247,6 +247,7 @@ static void begin_settings(struct settings *settings, const char *path, const ch
     memset(settings, 0, sizeof *settings);
     settings->path = path;
     settings->firmware = firmware == NULL ? WINDROW_FIRMWARE_74 : option_firmware(firmware);
+    settings->has_firmware_option = firmware != NULL;
     settings->firmware_by = firmware == NULL ? path : FIRMWARE_OPTION;
     settings->archive_length = 65536;
     settings->begin = first_of_may;

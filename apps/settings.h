@@ -29,7 +29,8 @@ struct settings {
     const char *path;
     uint32_t unit;
     uint32_t firmware;
-    const char *firmware_by; /* what says so, for messages: the path, or the option --firmware */
+    bool has_firmware_option; /* --firmware, which holds instead of what the file says */
+    const char *firmware_by;  /* what says so, for messages: the path, or the option */
     bool day_first;
     size_t archive_length;
     uint16_t groups[WINDROW_FILES][WINDROW_GROUP_NUMBERS]; /* file f has index f - 1 */

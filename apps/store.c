@@ -48,7 +48,8 @@ static void check_head(const uint8_t *bytes, size_t length, const char *path)
     uint32_t format = windrow_get_bytes(bytes + FORMAT_AT, 4), state_length = windrow_get_bytes(bytes + STATE_LENGTH_AT, 4);
     if ((format != WINDROW_STATE_FORMAT_1 && format != WINDROW_STATE_FORMAT) || state_length != WINDROW_STATE_BYTES)
         give_up("%s has a state of format %lu and %lu bytes; this program takes format %d or %d and %d bytes", path,
-                (unsigned long)format, (unsigned long)state_length, WINDROW_STATE_FORMAT_1, WINDROW_STATE_FORMAT, WINDROW_STATE_BYTES);
+                (unsigned long)format, (unsigned long)state_length, WINDROW_STATE_FORMAT_1, WINDROW_STATE_FORMAT,
+                WINDROW_STATE_BYTES);
     size_t whole = HEAD_BYTES + WINDROW_STATE_BYTES + windrow_get_bytes(bytes + ARCHIVE_LENGTH_AT, 4) + CRC_BYTES;
     if (length != whole)
         give_up("%s is %s: it has %zu bytes and not %zu", path, length < whole ? "cut short" : "too long", length, whole);

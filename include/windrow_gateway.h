@@ -23,20 +23,20 @@
  * needs less than 1 KiB (windrow_reader.h).
  *
  * Stored states: keep state and archive together, as of the same moment (in one file, synced and renamed, with a checksum), and
- * WINDROW_STATE_FORMAT with them. fresh, start and scan write the archive; one call other than fresh that leaves every byte of
- * the state as it was has left the archive so too, so it is enough to store after each call that changed the state. Compare
- * before and after each call and not with the state stored last: over several calls a file can go round once, and then the
- * state's bytes are those of before and the archive's are not. Take the bytes back through windrow_state_from_bytes, with the format
- * that was stored with them; it refuses another format and a bool that is none. The calls judge the rest of a state, but of the archive
- * only its length: damaged bytes, or those of another moment, are not noticed. A poll with a frame of 0 bytes judges a state and
- * changes nothing; it is lent a live table like any other. The live table is part of neither state nor archive, and is not stored.
- * Running is stored, so that no start is needed at power-up, and so are the Booleans: the first scan then compares with those of
- * before. Where state.flags.pending is on, a start would empty every file.
+ * WINDROW_STATE_FORMAT with them. fresh, start and scan write the archive; one call other than fresh that leaves every byte of the
+ * state as it was has left the archive so too, so it is enough to store after each call that changed the state. Compare before and
+ * after each call and not with the state stored last: over several calls a file can go round once, and then the state's bytes are
+ * those of before and the archive's are not. Take the bytes back through windrow_state_from_bytes, with the format that was stored
+ * with them; it refuses another format and a bool that is none. The calls judge the rest of a state, but of the archive only its
+ * length: damaged bytes, or those of another moment, are not noticed. A poll with a frame of 0 bytes judges a state and changes
+ * nothing; it is lent a live table like any other. The live table is part of neither state nor archive, and is not stored. Running
+ * is stored, so that no start is needed at power-up, and so are the Booleans: the first scan then compares with those of before.
+ * Where state.flags.pending is on, a start would empty every file.
  *
- * States of format 1, as releases 1 and 2 stored them, go on with all their records, as of gateways of firmware 74, over the archive as
- * it is; store them as of format 2 from then on. Make no fresh gateway where the format is 1, nor where the first call refuses a
- * state with 2: that would set the archive to zeros. A state with which no format was stored is of format 1 where its firmware is 0
- * and its unit is not.
+ * States of format 1, as releases 1 and 2 stored them, go on with all their records, as of gateways of firmware 74, over the
+ * archive as it is; store them as of format 2 from then on. Make no fresh gateway where the format is 1, nor where the first call
+ * refuses a state with 2: that would set the archive to zeros. A state with which no format was stored is of format 1 where its
+ * firmware is 0 and its unit 1 to 247.
  */
 #ifndef WINDROW_GATEWAY_H
 #define WINDROW_GATEWAY_H
@@ -145,9 +145,10 @@ struct windrow_gateway_answer {
  *
  * The firmware says how many records the alarm file (11) has, 150 for 73 and 500 for 74, and nothing else: the limit in its
  * register, the numbers that can be read and requested, where it goes round, and the room that is left for files 1-10 follow from
- * that. Take 74, but 73 for a site whose drivers were made for the older firmware: with 74 those that stop at record 150 miss alarms,
- * and those that go on find no end there. With 73 record 150 is the last, and a poll of 151 is answered with WINDROW_ILLEGAL_VALUE. Like unit and date order it is fixed here: a stored state keeps it, and
- * only another fresh, which empties every file, makes a gateway of the other firmware.
+ * that. Take 74, but 73 for a site whose drivers were made for the older firmware: with 74 those that stop at record 150 miss
+ * alarms, and those that go on find no end there. With 73 record 150 is the last, and a poll of 151 is answered with
+ * WINDROW_ILLEGAL_VALUE. Like unit and date order it is fixed here: a stored state keeps it, and only another fresh, which empties
+ * every file, makes a gateway of the other firmware.
  */
 struct windrow_gateway_answer windrow_gateway_fresh(bool day_first, uint32_t unit, uint32_t firmware, uint8_t *archive,
                                                     size_t archive_length);
@@ -338,13 +339,14 @@ static inline uint32_t windrow_poll(struct windrow_state *state, const uint8_t *
 }
 
 /*
- * Takes a stored state back, of the format that was stored with it: WINDROW_STATE_FORMAT, or WINDROW_STATE_FORMAT_1, that of releases 1
- * and 2. Their gateways have 500 alarm records, so that the firmware of such a state becomes 74, whatever the two bytes hold that were
- * reserved there; the archive that was stored with it goes with it as it is. Answers false, and leaves *state alone, where the format is
- * another, or a byte that is to be a bool is neither 0 nor 1: such bytes were never a state. A state that is taken may still be
- * Foreign; the first call says so.
+ * Takes a stored state back, of the format that was stored with it: WINDROW_STATE_FORMAT, or WINDROW_STATE_FORMAT_1, that of
+ * releases 1 and 2. Their gateways have 500 alarm records, so that the firmware of such a state becomes 74, whatever the two bytes
+ * hold that were reserved there; the archive that was stored with it goes with it as it is. Answers false, and leaves *state alone,
+ * where the format is another, or a byte that is to be a bool is neither 0 nor 1: such bytes were never a state. A state that is
+ * taken may still be Foreign; the first call says so.
  */
-static inline bool windrow_state_from_bytes(struct windrow_state *state, const uint8_t bytes[WINDROW_STATE_BYTES], uint32_t format)
+static inline bool windrow_state_from_bytes(struct windrow_state *state, const uint8_t bytes[WINDROW_STATE_BYTES],
+                                            uint32_t format)
 {
     static const size_t bools[] = {
         offsetof(struct windrow_state, site) + offsetof(struct windrow_site, day_first),

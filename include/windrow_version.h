@@ -17,8 +17,9 @@
  *
  * 3: windrow_fresh and windrow_gateway_fresh take the gateway's firmware too, behind the unit, and windrow_state_from_bytes the
  * stored state's format, so that programs for 2 have to be changed where they make a gateway and where they take a state back. A
- * compiler stops one that was not; the linker does not, so link no object that was compiled with headers of 2: its fresh would be refused with 2 (Foreign), as the
- * archive's address would be taken for the firmware, and so would every call with a state that it has stored, which names none.
+ * compiler stops one that was not; the linker does not, so link no object that was compiled with headers of 2: its fresh would be
+ * refused with 2 (Foreign), as the archive's address would be taken for the firmware, and so would every call with a state that it
+ * has stored, which names none.
  */
 #define WINDROW_VERSION_MAJOR 3
 #define WINDROW_VERSION_MINOR 0
@@ -26,8 +27,8 @@
 #define WINDROW_VERSION "3.0.0"
 
 /*
- * The format of struct windrow_state as bytes. Store it beside a state, and hand it to windrow_state_from_bytes with it, which takes
- * this one and that of releases 1 and 2. A program that makes a fresh gateway wherever it finds another format than
+ * The format of struct windrow_state as bytes, and that of releases 1 and 2. Store it beside a state, and hand it to
+ * windrow_state_from_bytes with it, which takes both. A program that makes a fresh gateway wherever it finds another format than
  * WINDROW_STATE_FORMAT, or wherever a stored state is refused with 2 (Foreign), loses its archive by the upgrade from 2.
  */
 #define WINDROW_STATE_FORMAT 2

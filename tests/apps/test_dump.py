@@ -205,8 +205,9 @@ class Clause(ForeignCase):
                      "file 1's requested number 10 is over its n")
 
     def test_zeros(self):
-        """What a refused fresh leaves, with an archive of its length."""
+        """What a refused fresh leaves, with an archive of its length. It is no state of format 1 either."""
         self.write("state", bytes(1604))
         self.write("archive", b"")
-        self.expect(TROUBLE, ["unit 0 is not 1-247", "firmware 0 is neither 73 nor 74",
-                              "the laid-out files do not fit the archive of 0 bytes"], "dump", "state", "archive")
+        done = self.expect(TROUBLE, ["unit 0 is not 1-247", "firmware 0 is neither 73 nor 74",
+                                     "the laid-out files do not fit the archive of 0 bytes"], "dump", "state", "archive")
+        self.assertNotIn("--format", done.stderr)

@@ -84,14 +84,15 @@ valueIn (In r) table p = shownValue (valueInTable table r p)
 abbrev freshTold : ℕ → ℕ → ℕ → List ℕ
 freshTold unit firmware size = freshAnswer false unit firmware size .number ∷ []
 
--- the number that Lock answers to a state as Fresh leaves one, over memory of some length
+-- the number that Lock answers to a state over memory of some length
 abbrev lockTold : State → ℕ → List ℕ
 lockTold s size = lockAnswer s size .number ∷ []
 
+-- a state as Fresh leaves it for unit 1, but of any firmware and length of memory
 abbrev stored : ℕ → ℕ → State
 stored firmware size = freshState false 1 firmware size
 
--- the same to such a state with a pointer or a requested number of the alarm file
+-- what Lock answers to such a state with a pointer or a requested number of the alarm file
 abbrev pointerTold : ℕ → ℕ → ℕ → List ℕ
 pointerTold firmware size pointer =
     lockTold (withScan (stored firmware size) (replicate 10 0 ++ (pointer ∷ [])) (replicate 16 0)) size

@@ -21,7 +21,7 @@ use Rattle.modbus.specs.Frame.{goodUnit}
 use Rattle.state.specs.declared.parts.State.{State}
 use Rattle.gateway.specs.declared.calls.Answer.{Answer}
 use Rattle.gateway.specs.Calls.{told, done, settled, byNumber, mostMemory, freshNumber}
-use Rattle.state.specs.Firmware.{newerFirmware, goodFirmware, leastMemory}
+use Rattle.state.specs.Firmware.{olderFirmware, newerFirmware, goodFirmware, leastMemory}
 use Rattle.state.specs.Validity.{stateNumber}
 
 pub refused-first : (s : State) (size n : ℕ) (own : Answer) → n ≡ stateNumber s size → (n ≡ 0 → ⊥) → told s n 0 ≡ settled s size own
@@ -63,7 +63,7 @@ unfolding goodFirmware
 fresh-fits unit firmware size taken =
     let k = fresh-parts unit firmware size taken in (
       within-inside 1 247 unit (k .ours) .1,
-      within-inside 73 newerFirmware firmware (k .known) .1,
+      within-inside olderFirmware newerFirmware firmware (k .known) .1,
       within-inside (leastMemory firmware) mostMemory size (k .memory) .1,
     )
 

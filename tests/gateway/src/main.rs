@@ -6,8 +6,9 @@
 //! The numbers say how many lists of each kind there are: short ones of calls of every kind; long ones that are mostly scans and
 //! polls; one that fills a file of 65,535 records; polls of every address, every run of live points and more, in turn; scans with
 //! every change of some alarm points, in turn; texts with every pair of bytes, in turn. About half of them are with firmware 73, the
-//! others with 74; those in turn are with both. Some lists start with Fresh, others from a random state that is not Foreign over
-//! random bytes or old records. Between the calls of short and long ones, damaged copies of the state are handed in. List i of each kind is made from SEED + i, so `gateway SEED+i 1 0 0 0 0 0` repeats a short one alone.
+//! others with 74; polls and alarms in turn are with both. Some lists start with Fresh, others from a random state that is not
+//! Foreign over random bytes or old records. Between the calls of short and long ones, damaged copies of the state are handed in.
+//! List i of each kind is made from SEED + i, so `gateway SEED+i 1 0 0 0 0 0` repeats a short one alone.
 
 mod alarm_sights;
 mod alarms_in_turn;

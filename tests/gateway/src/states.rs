@@ -372,6 +372,13 @@ pub fn damage(random: &mut Random, s: &mut State, clause: usize) {
             let more = left / size.max(6) as u64 + u64::from(!random.chance(5));
             s.files.layout.limits[file] = (u64::from(s.files.layout.limits[file]) + more).min(65_535) as u16;
         }
+        _ => damage_firmware(random, s, clause),
+    }
+}
+
+/// Damages the firmware, or what is good with the other one only, by the clause with that index.
+fn damage_firmware(random: &mut Random, s: &mut State, clause: usize) {
+    match clause {
         15 => s.site.firmware = [0, 72, 75, 329, 330, 65_535, FIRMWARE_73, FIRMWARE_74][random.below(8) as usize],
         16 | 17 => {
             s.site.firmware = FIRMWARE_73;
