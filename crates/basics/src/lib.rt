@@ -1,5 +1,7 @@
 // What every other crate shares: the service card's numbers, a test of a range, copies of slices, and in proofs/ facts of logic,
 // lists and arithmetic.
+#![tactic(auto)]
+
 ghost use Rattle.std.specs.Prelude.{◌≡◌, length};
 ghost use Rattle.basics.specs.Numbers.{within};
 

@@ -14,7 +14,7 @@ use state::parts::{Settings, State};
 use state::validity::is_slot_good;
 
 #[repr(C)]
-#[derive(Drop)]
+#[derive(Clone, Copy)]
 pub struct Answer {
     pub number: u32,
     pub carried: u32,
@@ -52,8 +52,7 @@ fn answer_flags(number: u32, s: State, running: bool, unlocked: bool, pending: b
 }
 
 // Lock: unlocked off.
-#[unsafe(no_mangle)]
-pub extern "C" fn windrow_gateway_lock(s: State, archive: &[u8]) -> Answer
+pub fn windrow_gateway_lock(s: State, archive: &[u8]) -> Answer
     ensures { Locked s archive.now result archive.now }
 {
     let checked = check(s, archive.len());
@@ -61,8 +60,7 @@ pub extern "C" fn windrow_gateway_lock(s: State, archive: &[u8]) -> Answer
 }
 
 // Stop: running off.
-#[unsafe(no_mangle)]
-pub extern "C" fn windrow_gateway_stop(s: State, archive: &[u8]) -> Answer
+pub fn windrow_gateway_stop(s: State, archive: &[u8]) -> Answer
     ensures { Stopped s archive.now result archive.now }
 {
     let checked = check(s, archive.len());
@@ -83,8 +81,7 @@ fn unlock_number(number: u32, running: bool) -> u32
 }
 
 // Unlock: unlocked and pending on, while not running.
-#[unsafe(no_mangle)]
-pub extern "C" fn windrow_gateway_unlock(s: State, archive: &[u8]) -> Answer
+pub fn windrow_gateway_unlock(s: State, archive: &[u8]) -> Answer
     ensures { Unlocked s archive.now result archive.now }
 {
     let checked = check(s, archive.len());
@@ -127,8 +124,7 @@ fn with_trigger(s: State, file: u32, point: u16) -> State
 }
 
 // Trigger: the Boolean whose rise captures a record of a file, or 0 for none. It empties nothing.
-#[unsafe(no_mangle)]
-pub extern "C" fn windrow_gateway_trigger(s: State, archive: &[u8], file: u32, point: u32) -> Answer
+pub fn windrow_gateway_trigger(s: State, archive: &[u8], file: u32, point: u32) -> Answer
     ensures { TriggerSet s archive.now file point result archive.now }
 {
     let checked = check(s, archive.len());
@@ -154,8 +150,7 @@ fn with_slot(s: State, number: u32, slot: Slot) -> State
 }
 
 // Alarm: a slot's Boolean point (0 is off), type and float point; each is checked even when the slot is off.
-#[unsafe(no_mangle)]
-pub extern "C" fn windrow_gateway_alarm(
+pub fn windrow_gateway_alarm(
     s: State,
     archive: &[u8],
     slot: u32,

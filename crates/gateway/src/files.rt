@@ -109,8 +109,7 @@ fn fresh_number(unit: u32, firmware: u32, size: usize) -> u32
 }
 
 // Fresh: every archive byte 0 and the state as document 01's Fresh; refused, a state of zeros, and memory is not touched.
-#[unsafe(no_mangle)]
-pub extern "C" fn windrow_gateway_fresh(
+pub fn windrow_gateway_fresh(
     day_first: bool,
     unit: u32,
     firmware: u32,
@@ -163,8 +162,7 @@ fn redefine(s: State, file: u32, groups: &[u16], limit: u16) -> Answer
 }
 
 // Define: replaces one file's draft. A layout is not touched before Start.
-#[unsafe(no_mangle)]
-pub extern "C" fn windrow_gateway_define(
+pub fn windrow_gateway_define(
     s: State,
     archive: &[u8],
     file: u32,
@@ -222,8 +220,7 @@ fn restart(s: State) -> State
 }
 
 // Start: running on, unlocked off. Pending, it lays out the draft and empties every file.
-#[unsafe(no_mangle)]
-pub extern "C" fn windrow_gateway_start(s: State, archive: &mut [u8]) -> Answer
+pub fn windrow_gateway_start(s: State, archive: &mut [u8]) -> Answer
     ensures { Started s archive.old result archive.new }
 {
     let size = archive.len();

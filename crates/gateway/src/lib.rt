@@ -1,4 +1,6 @@
 // The gateway: the calls of the plain machine, exported for its firmware.
+#![tactic(auto)]
+
 pub mod calls;
 pub mod files;
 pub mod poll;

@@ -11,7 +11,7 @@ use state::parts::{Line, State};
 
 // The card's number, the reply's length, 0 for none, and the state.
 #[repr(C)]
-#[derive(Drop)]
+#[derive(Clone, Copy)]
 pub struct PollAnswer {
     pub number: u32,
     pub length: u32,
@@ -39,15 +39,15 @@ fn poll_number(number: u32, table_size: usize, buffer_size: usize) -> u32
 
 // Poll: answers a frame of any length and content at the start of the reply buffer, from the archive or the live table. Bytes past the
 // reply are left as they were.
-#[unsafe(no_mangle)]
-pub extern "C" fn windrow_gateway_poll(
+pub fn windrow_gateway_poll(
     s: State,
     archive: &[u8],
     table: &[u8],
     frame: &[u8],
     reply: &mut [u8],
 ) -> PollAnswer
-    ensures { Polled s archive.now table.now frame.now reply.old result archive.now table.now reply.new }
+    ensures { Polled s archive.now table.now frame.now reply.old result
+        archive.now table.now reply.new }
 {
     let checked = check(s, archive.len());
     let number = poll_number(checked.number, table.len(), reply.len());

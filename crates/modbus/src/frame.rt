@@ -33,7 +33,8 @@ fn write_crc(buffer: &mut [u8], n: usize)
 // Makes a read reply of the bytes that stand from byte 3 on, and answers its length. It carries the function that asked.
 pub fn close_read_reply(buffer: &mut [u8], unit: u8, function: u8, size: usize) -> usize
     requires { (size ≤ 250) × (size + 5 ≤ length buffer.old) }
-    ensures { Sent (read_reply_by unit function (take size (drop 3 buffer.old))) buffer.old result buffer.new }
+    ensures { Sent (read_reply_by unit function (take size (drop 3 buffer.old)))
+        buffer.old result buffer.new }
 {
     buffer[0] = unit;
     buffer[1] = function;

@@ -7,7 +7,7 @@ ghost use Rattle.points.specs.Groups.{unused, ends_in_row, points_from, group_of
 use crate::table::{Found, Row, points_size, row_of};
 
 // A group: unused, points of one row, or against the rule.
-#[derive(Drop)]
+#[derive(Clone, Copy)]
 pub enum Group {
     Unused,
     Points(Row),
@@ -15,7 +15,7 @@ pub enum Group {
 }
 
 // A definition judged: good, with the size of its record; a bad group, with the place of the first; too long a record.
-#[derive(Drop)]
+#[derive(Clone, Copy)]
 pub enum Judged {
     Good(usize),
     BadGroup(u8),

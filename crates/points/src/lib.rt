@@ -1,4 +1,6 @@
 // The live table's rows, the groups of a definition and the size of its record.
+#![tactic(auto)]
+
 pub mod groups;
 pub mod table;
 

@@ -5,7 +5,7 @@ ghost use Rattle.points.specs.Table.{in_row, in_row_or_none, row_of, points_size
 use basics::is_within;
 
 // What a row's points are, as in source document 000.
-#[derive(Drop)]
+#[derive(Clone, Copy)]
 pub enum Kind {
     Boolean,
     Int16,
@@ -16,7 +16,7 @@ pub enum Kind {
 }
 
 // The points `first` to `last` take `size` bytes each, 0 standing for one bit, from byte `offset` of the table on.
-#[derive(Drop)]
+#[derive(Clone, Copy)]
 pub struct Row {
     pub kind: Kind,
     pub first: u16,
@@ -25,7 +25,7 @@ pub struct Row {
     pub offset: u16,
 }
 
-#[derive(Drop)]
+#[derive(Clone, Copy)]
 pub enum Found {
     In(Row),
     Nowhere,

@@ -15,7 +15,7 @@ use modbus::crc::ends_in_crc;
 use modbus::frame::write_exception;
 
 // What a poll leaves: the reply's length, 0 for none, and the requested numbers.
-#[derive(Drop)]
+#[derive(Clone, Copy)]
 pub struct Answered {
     pub length: usize,
     pub requested: [u16; 11],
@@ -90,8 +90,10 @@ fn reply_to(
     pointers: &[u16],
     requested: &[u16],
 ) -> usize
-    requires lent_poll { LentPoll groups.now limits.now sizes.now depth pointers.now requested.now archive.now table.now buffer.old }
-    requires lent_asked { LentAsked (limit_of (layout_from groups.now limits.now depth)) frame.now asked }
+    requires lent_poll { LentPoll groups.now limits.now sizes.now depth pointers.now
+        requested.now archive.now table.now buffer.old }
+    requires lent_asked { LentAsked (limit_of (layout_from groups.now limits.now depth))
+        frame.now asked }
     ensures { Sent
         (reply_of
         (archive_view unit (layout_from groups.now limits.now depth) pointers.now requested.now archive.now table.now)
@@ -133,7 +135,8 @@ pub fn answer<'a>(
     pointers: &'a [u16],
     requested: [u16; 11],
 ) -> Answered
-    requires { LentPoll groups.now limits.now sizes.now depth pointers.now requested archive.now table.now buffer.old }
+    requires { LentPoll groups.now limits.now sizes.now depth pointers.now requested
+        archive.now table.now buffer.old }
     ensures { Answers
         (archive_view unit (layout_from groups.now limits.now depth) pointers.now requested archive.now table.now)
         frame.now buffer.old result.length buffer.new result.requested }

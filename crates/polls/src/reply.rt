@@ -17,7 +17,8 @@ use records::record::write_points;
 // Sends `size` bytes of archive memory from place `at` on as a read reply, and answers its length.
 pub fn send_bytes(buffer: &mut [u8], unit: u8, archive: &[u8], at: usize, size: usize) -> usize
     requires { (256 ≤ length buffer.old) × (size ≤ 250) × (at + size ≤ length archive.now) }
-    ensures { Sent (read_reply unit (take size (drop at archive.now))) buffer.old result buffer.new }
+    ensures { Sent (read_reply unit (take size (drop at archive.now)))
+        buffer.old result buffer.new }
 {
     copy_bytes(&mut buffer[3..3 + size], &archive[at..at + size]);
     close_read_reply(buffer, unit, READ, size)

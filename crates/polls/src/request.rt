@@ -15,7 +15,7 @@ use points::{Found, Row};
 
 // What a request asks for once it has passed its checks, or the exception that it did not. Files and registers are counted from 0,
 // records from 1.
-#[derive(Drop)]
+#[derive(Clone, Copy)]
 pub enum Asked {
     // the exception's code
     Exception(u8),
@@ -178,7 +178,8 @@ fn is_on_requested(address: u16) -> bool
 // Function 06.
 fn ask_write(address: u16, value: u16, limits: &[u16], depth: u16) -> Asked
     requires { length limits.now ≡ 10 }
-    ensures { (groups : List ℕ) → result ≡ write_asked (limit_of (layout_from groups limits.now depth)) address value }
+    ensures { (groups : List ℕ) →
+        result ≡ write_asked (limit_of (layout_from groups limits.now depth)) address value }
 {
     if !is_on_requested(address) {
         return Asked::Exception(ILLEGAL_ADDRESS);

@@ -2,7 +2,7 @@
 use records::stamp::Stamp;
 
 // The value of a point: a case a kind, and one for the refusal, with the card's number and the number that goes with it.
-#[derive(Drop)]
+#[derive(Clone, Copy)]
 pub enum Value {
     Flag(bool),
     Int16(i16),
@@ -14,7 +14,7 @@ pub enum Value {
 
 // A part of the frame, or a refusal with a part of no length.
 #[repr(C)]
-#[derive(Drop)]
+#[derive(Clone, Copy)]
 pub struct PartAnswer {
     pub number: u32,
     pub carried: u32,
@@ -24,7 +24,7 @@ pub struct PartAnswer {
 
 // A record's stamp, or a refusal with a stamp of zeros.
 #[repr(C)]
-#[derive(Drop)]
+#[derive(Clone, Copy)]
 pub struct StampAnswer {
     pub number: u32,
     pub carried: u32,
@@ -33,7 +33,7 @@ pub struct StampAnswer {
 
 // A point's value, or a refusal: kind 1 flag, 2 16-bit, 3 32-bit, 4 float, 5 text, 0 refused.
 #[repr(C)]
-#[derive(Drop)]
+#[derive(Clone, Copy)]
 pub struct PointAnswer {
     pub number: u32,
     pub carried: u32,

@@ -12,8 +12,7 @@ use modbus::crc::crc_of;
 use records::stamp::{Stamp, stamp_from};
 
 // The record: its place and length in the frame.
-#[unsafe(no_mangle)]
-pub extern "C" fn windrow_reader_record(groups: &[u16], day_first: bool, frame: &[u8]) -> PartAnswer
+pub fn windrow_reader_record(groups: &[u16], day_first: bool, frame: &[u8]) -> PartAnswer
     ensures { result ≡ record_answer groups.now day_first frame.now }
 {
     match check(groups, day_first, frame) {
@@ -33,8 +32,7 @@ pub extern "C" fn windrow_reader_record(groups: &[u16], day_first: bool, frame: 
 }
 
 // The record's stamp: month, day, year, hour, minute, second, whatever the date order.
-#[unsafe(no_mangle)]
-pub extern "C" fn windrow_reader_stamp(groups: &[u16], day_first: bool, frame: &[u8]) -> StampAnswer
+pub fn windrow_reader_stamp(groups: &[u16], day_first: bool, frame: &[u8]) -> StampAnswer
     ensures { result ≡ stamp_answer groups.now day_first frame.now }
 {
     match check(groups, day_first, frame) {
@@ -62,13 +60,7 @@ pub extern "C" fn windrow_reader_stamp(groups: &[u16], day_first: bool, frame: &
 }
 
 // The stretch of place g, counted from 1: its place and length in the frame.
-#[unsafe(no_mangle)]
-pub extern "C" fn windrow_reader_stretch(
-    groups: &[u16],
-    day_first: bool,
-    frame: &[u8],
-    g: u32,
-) -> PartAnswer
+pub fn windrow_reader_stretch(groups: &[u16], day_first: bool, frame: &[u8], g: u32) -> PartAnswer
     ensures { result ≡ stretch_answer groups.now day_first frame.now g }
 {
     match check_stretch(groups, day_first, frame, g) {
@@ -134,8 +126,7 @@ fn answer_of(value: Value) -> PointAnswer
 }
 
 // Point e of place g, both counted from 1.
-#[unsafe(no_mangle)]
-pub extern "C" fn windrow_reader_point(
+pub fn windrow_reader_point(
     groups: &[u16],
     day_first: bool,
     frame: &[u8],
@@ -148,8 +139,7 @@ pub extern "C" fn windrow_reader_point(
 }
 
 // The CRC of a request that a driver makes, or of any other bytes; a frame carries its low byte first.
-#[unsafe(no_mangle)]
-pub extern "C" fn windrow_reader_crc(bytes: &[u8]) -> u16
+pub fn windrow_reader_crc(bytes: &[u8]) -> u16
     ensures { result ≡ crc_of bytes.now }
 {
     crc_of(bytes)

@@ -10,7 +10,7 @@ use points::groups::judge;
 use records::stamp::{in_range, stamp_from};
 
 // A step of the reading end: done, with the record's size, or the card's number and what it carries.
-#[derive(Drop)]
+#[derive(Clone, Copy)]
 pub enum Checked {
     Good(usize),
     Refused { number: u32, carried: u32 },

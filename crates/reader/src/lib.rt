@@ -1,4 +1,6 @@
 // The reading end: decodes a reply frame for site software. `exports` has what C links; the other modules do the work.
+#![tactic(auto)]
+
 pub mod answers;
 pub mod exports;
 pub mod frame;

@@ -1,4 +1,6 @@
 // What a capture writes: the stamp, the record and the alarm record, into a lent part.
+#![tactic(auto)]
+
 pub mod alarm;
 pub mod flags;
 pub mod record;

@@ -12,7 +12,7 @@ use basics::is_within;
 
 // A state's number, Memory (1), Foreign (2) or done (0), and where it is done the bytes of a record of each laid-out file and the depth of
 // the alarm file.
-#[derive(Drop)]
+#[derive(Clone, Copy)]
 pub struct StateCheck {
     pub number: u32,
     pub sizes: [usize; 10],

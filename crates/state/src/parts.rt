@@ -5,7 +5,7 @@ use archive::layout::Definitions;
 
 // What Fresh fixes: the archive memory's length, our unit, the date order and the firmware (document 02, L8).
 #[repr(C)]
-#[derive(Drop)]
+#[derive(Clone, Copy)]
 pub struct Site {
     pub archive_length: u32,
     pub unit: u8,
@@ -14,7 +14,7 @@ pub struct Site {
 }
 
 #[repr(C)]
-#[derive(Drop)]
+#[derive(Clone, Copy)]
 pub struct Flags {
     pub running: bool,
     pub unlocked: bool,
@@ -23,7 +23,7 @@ pub struct Flags {
 
 // `scanned` says that a scan was accepted, and `booleans` are then the latest one's.
 #[repr(C)]
-#[derive(Drop)]
+#[derive(Clone, Copy)]
 pub struct Seen {
     pub scanned: bool,
     pub booleans: [u8; 16],
@@ -31,7 +31,7 @@ pub struct Seen {
 
 // The pointers are those of files 1 to 11; the alarm file's is the last.
 #[repr(C)]
-#[derive(Drop)]
+#[derive(Clone, Copy)]
 pub struct Files {
     pub layout: Definitions,
     pub pointers: [u16; 11],
@@ -39,13 +39,13 @@ pub struct Files {
 
 // The requested numbers, of files 1 to 11.
 #[repr(C)]
-#[derive(Drop)]
+#[derive(Clone, Copy)]
 pub struct Line {
     pub requested: [u16; 11],
 }
 
 #[repr(C)]
-#[derive(Drop)]
+#[derive(Clone, Copy)]
 pub struct Settings {
     pub draft: Definitions,
     pub triggers: [u16; 10],
@@ -54,7 +54,7 @@ pub struct Settings {
 
 // The settings come last: what stands behind 32 slots is hard to find for the prover.
 #[repr(C)]
-#[derive(Drop)]
+#[derive(Clone, Copy)]
 pub struct State {
     pub site: Site,
     pub flags: Flags,

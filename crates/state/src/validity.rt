@@ -92,7 +92,8 @@ pub fn are_settings_valid<'a>(
     triggers: &'a [u16],
     slots: [Slot; 32],
 ) -> bool
-    requires drafts_len { (length drafts.now ≡ 320) × (length laid.now ≡ 320) × (length triggers.now ≡ 10) }
+    requires drafts_len { (length drafts.now ≡ 320) × (length laid.now ≡ 320)
+        × (length triggers.now ≡ 10) }
     requires laid_value { good_files laid.now ≡ true }
     ensures { result ≡ good_files drafts.now && (good_triggers triggers.now && good_slots slots) }
 {
@@ -108,7 +109,8 @@ pub fn are_settings_valid<'a>(
 // Whether no number of files 1 to 10 is over its file's n, nor the alarm file's over its depth.
 fn are_within(numbers: &[u16], limits: &[u16], depth: u16) -> bool
     requires { (length numbers.now ≡ 11) × (length limits.now ≡ 10) }
-    ensures { (groups : List ℕ) → result ≡ within_limits numbers.now (layout_from groups limits.now depth) }
+    ensures { (groups : List ℕ) →
+        result ≡ within_limits numbers.now (layout_from groups limits.now depth) }
 {
     let mut i: usize = 0;
     while i < 10 {
@@ -129,8 +131,10 @@ pub fn judge_files<'a>(
     pointers: &'a [u16],
     requested: &'a [u16],
 ) -> Measured
-    requires { (length groups.now ≡ 320) × (length limits.now ≡ 10) × (length pointers.now ≡ 11) × (length requested.now ≡ 11) }
-    ensures { JudgedFiles (layout_from groups.now limits.now depth) size pointers.now requested.now result }
+    requires { (length groups.now ≡ 320) × (length limits.now ≡ 10) × (length pointers.now ≡ 11)
+        × (length requested.now ≡ 11) }
+    ensures { JudgedFiles (layout_from groups.now limits.now depth)
+        size pointers.now requested.now result }
 {
     let measured = measure(groups);
     let sizes = measured.sizes;
