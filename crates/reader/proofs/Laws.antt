@@ -25,7 +25,6 @@ use Rattle.points.specs.declared.table.Row.{Row}
 use Rattle.points.specs.declared.groups.Group.{Group}
 use Rattle.points.specs.declared.groups.Group.TheVariants.{Unused, Points, Bad}
 use Rattle.points.specs.declared.groups.Judged.{Judged}
-use Rattle.points.specs.declared.groups.Judged.TheVariants as Judged
 use Rattle.points.specs.Table.{is_bits, flag_at, packed_size, points_size}
 use Rattle.points.specs.Groups.{judged, group_of, group_at, group_size, groups_size, record_size}
 use Rattle.points.proofs.Laws.{GoodDefinition, judged-good, group-inside, kind_size, lookup-size, groups-size-next, groups-size-mono}

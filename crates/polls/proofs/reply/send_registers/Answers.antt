@@ -1,0 +1,34 @@
+use mathlib.Core.Path.{◌≡◌, refl, sym, ap, ◌∙◌, subst}
+use Prim.Native.Nat.{◌*◌}
+use native.Mathlib.Omega.{arith}
+use lib.ListN.{take, drop, take-append-drop}
+use Rattle.basics.specs.Lists.{pasted}
+use Rattle.modbus.specs.Frame.{read_reply, Sent}
+use Rattle.modbus.proofs.Laws.{closed-over}
+use Rattle.polls.specs.Frames.{register_bytes}
+use Rattle.polls.specs.Lent.{register_view}
+use Rattle.polls.proofs.Laws.{length-registers, registers-put}
+use Rattle.polls.proofs.reply.send_registers.Goals as goal
+
+pub loop-i-init : goal.loop-i-init
+unfolding register_bytes
+loop-i-init c = (omega arith, refl, sym (take-append-drop 3 c.args.buffer.now))
+
+pub loop-i-preserved : goal.loop-i-preserved
+loop-i-preserved c =
+    let a = c.args in
+    let at = c.loop-i in (
+      omega arith,
+      c.buffer-1.given ∙ at.invariant.1,
+      registers-put (register_view a.limits.now a.depth a.pointers.now a.requested.now) a.buffer.now at.buffer _ a.first at.i _ (omega arith) at.invariant.2 c.register_at.ensures c.put_word.ensures,
+    )
+
+pub returns : goal.returns
+returns c =
+    let a = c.args in
+    let at = c.loop-i in
+    let close = c.close_read_reply in
+    let all : at.i ≡ a.count = omega arith in
+    closed-over a.buffer.now (register_bytes (register_view a.limits.now a.depth a.pointers.now a.requested.now) a.first a.count) _ a.unit 3 (2 * a.count) _ (length-registers (register_view a.limits.now a.depth a.pointers.now a.requested.now) a.first a.count) (omega arith)
+    (subst (λ x. Sent (read_reply a.unit (take (2 * a.count) (drop 3 x))) x close.result close.new.buffer)
+    (at.invariant.2 ∙ ap (λ n. pasted a.buffer.now 3 (register_bytes (register_view a.limits.now a.depth a.pointers.now a.requested.now) a.first n)) all) close.ensures)
