@@ -20,7 +20,7 @@ use Rattle.gateway.specs.Calls.{unlock_answer, lock_answer, stop_answer, trigger
 use Rattle.gateway.specs.Scan.{scan_answer, scan_memory}
 use Rattle.gateway.specs.Poll.{poll_answer, poll_buffer}
 use Rattle.machine.specs.Machine.{Call, unlock, lock, stop, start, define, trigger, alarm, scan, poll, Outcome, fresh_card}
-use Rattle.machine.specs.Runs.{Answering, Meets, Runs, none, next, Ran}
+use Rattle.machine.specs.Runs.{Answering, Meets, none, next, EachListRuns, EachFreshBegins}
 use Rattle.machine.specs.Readings.{Read}
 use Rattle.machine.proofs.Start.{fresh-answers}
 
@@ -60,15 +60,14 @@ gives s m (poll table frame buffer) =
     }
 
 -- ---- a list
-pub every-list-runs : (s : State) (m : List ℕ) (cs : List Call) → (os : List Outcome) × (s' : State) × (m' : List ℕ) × Runs s m cs os s' m'
+pub every-list-runs : EachListRuns
 every-list-runs s m [] = ([], s, m, none)
 every-list-runs s m (c ∷ cs) =
     let one = gives s m c in
     let rest = every-list-runs one.state one.memory cs in
     (one.told ∷ rest.0, rest.1, rest.2, next {c = c} one.met rest.3)
 
-pub every-list-ran : (day_first : Bool) (unit firmware : ℕ) (m₀ : List ℕ) (cs : List Call) → fresh_card unit firmware (length m₀) ≡ done_card →
-    (os : List Outcome) × (s : State) × (m : List ℕ) × Ran day_first unit firmware m₀ cs os s m
+pub every-list-ran : EachFreshBegins
 every-list-ran day_first unit firmware m₀ cs accepted =
     let r = fresh_answer day_first unit firmware (length m₀) in
     let left = fresh_memory unit firmware m₀ in

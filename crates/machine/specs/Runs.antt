@@ -1,6 +1,6 @@
 -- Demand 3, a single claim about the whole list of calls. A step of a list is the very contract that the exported function promises.
 use Rattle.std.specs.Prelude.{◌≡◌, List, [], ◌∷◌, Bool, ℕ, length}
-use Rattle.basics.specs.Card.{card, done_no}
+use Rattle.basics.specs.Card.{card, done_no, done_card}
 use Rattle.state.specs.declared.parts.State.{State}
 use Rattle.gateway.specs.declared.calls.Answer.{Answer}
 use Rattle.gateway.specs.declared.poll.PollAnswer.{PollAnswer}
@@ -67,3 +67,12 @@ abbrev pub FreshAnswers : Type 0
 FreshAnswers =
     (day_first : Bool) (unit firmware : ℕ) (m₀ : List ℕ) (r : Answer) (m₁ : List ℕ) → MadeFresh day_first unit firmware m₀ r m₁ →
     card r.number r.carried ≡ fresh_card unit firmware (length m₀)
+
+-- ---- no claim about runs is empty: every list runs, from any state and memory, and from what an accepted Fresh left
+abbrev pub EachListRuns : Type 0
+EachListRuns = (s : State) (m : List ℕ) (cs : List Call) → (os : List Outcome) × (s' : State) × (m' : List ℕ) × Runs s m cs os s' m'
+
+abbrev pub EachFreshBegins : Type 0
+EachFreshBegins =
+    (day_first : Bool) (unit firmware : ℕ) (m₀ : List ℕ) (cs : List Call) → fresh_card unit firmware (length m₀) ≡ done_card →
+    (os : List Outcome) × (s : State) × (m : List ℕ) × Ran day_first unit firmware m₀ cs os s m

@@ -9,7 +9,6 @@ use Rattle.records.specs.declared.stamp.Stamp.{Stamp}
 use Rattle.records.specs.Stamp.{stamp_from}
 use Rattle.records.specs.Value.{PointValue, flag, int16, int32, float, text, value_in_stretch}
 use Rattle.reader.specs.declared.frame.Checked.{Checked}
-use Rattle.reader.specs.declared.frame.Checked.TheVariants as Checked
 use Rattle.reader.specs.declared.answers.Value.{Value}
 use Rattle.reader.specs.declared.answers.Value.TheVariants.{Flag, Int16, Int32, Float, Text, Refused}
 use Rattle.reader.specs.declared.answers.PartAnswer.{PartAnswer}

@@ -9,7 +9,6 @@ use Rattle.modbus.specs.Frame.{good_unit}
 use Rattle.points.specs.declared.groups.Group.{Group}
 use Rattle.points.specs.declared.groups.Group.TheVariants.{Unused, Points, Bad}
 use Rattle.points.specs.declared.groups.Judged.{Judged}
-use Rattle.points.specs.declared.groups.Judged.TheVariants as Judged
 use Rattle.points.specs.Card.{card_of}
 use Rattle.points.specs.Groups.{judged, group_at, count_at, group_size, groups_size}
 use Rattle.records.specs.Stamp.{in_range, stamp_from}
