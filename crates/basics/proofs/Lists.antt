@@ -1,10 +1,10 @@
 -- Laws of `tabulate`, and of lists that are written place by place. Assumes nothing.
---     length-tabulate, get_d_tabulate    its length, and what stands at a place
+--     length-tabulate, get_or-tabulate    its length, and what stands at a place
 --     tabulate-ext                      two rules that agree below n give the same list
 --     tabulate-part                     a stretch of it, which may run past its end, is one of a shifted rule
 --     part-tabulate, map-tabulate       a part of a list, and a function at each place, as such a rule
 --     copied                            a list copied place by place
---     filled_none, -next, -all          a loop that stores place after place by a rule: before, after one more turn, at the end
+--     filled_none, filled_next, filled-all    a loop that stores place after place by a rule: before, after one more turn, at the end
 --     copying-none, -next, -all         a loop that copies a list: the same
 --     sets-whole                        stores at every place of a list
 --     part-back, take-pasted, length-pasted    a part that was lent and has come back; what stands before its end; the length
@@ -40,10 +40,10 @@ unfolding tabulate
 length-tabulate zero f = refl
 length-tabulate (suc n) f = length-append (tabulate n f) (f n ∷ []) ∙ ap (λ k. k + 1) (length-tabulate n f) ∙ add-one n
 
-pub get_d_tabulate : (n : ℕ) (f : ℕ → ℕ) (i d : ℕ) → i < n → get_or (tabulate n f) i d ≡ f i
+pub get_or-tabulate : (n : ℕ) (f : ℕ → ℕ) (i d : ℕ) → i < n → get_or (tabulate n f) i d ≡ f i
 unfolding tabulate
-get_d_tabulate zero f i d h = absurd (not-suc-le-zero h)
-get_d_tabulate (suc n) f i d h = ⊎_elim last (λ l. before l (get_d_tabulate n f i d l)) (eq-or-lt_of_le (le_of_suc-le-suc h))
+get_or-tabulate zero f i d h = absurd (not-suc-le-zero h)
+get_or-tabulate (suc n) f i d h = ⊎_elim last (λ l. before l (get_or-tabulate n f i d l)) (eq-or-lt_of_le (le_of_suc-le-suc h))
   where
     last : i ≡ n → get_or (tabulate n f ++ (f n ∷ [])) i d ≡ f i
     last e = rw e (ap (λ k. get_or (tabulate n f ++ (f n ∷ [])) k d) (sym (length-tabulate n f)) ∙ get_or-append_seam (tabulate n f) (f n) [] d)
@@ -54,7 +54,7 @@ get_d_tabulate (suc n) f i d h = ⊎_elim last (λ l. before l (get_d_tabulate n
 pub tabulate-ext : (n : ℕ) (f g : ℕ → ℕ) → ((i : ℕ) → i < n → f i ≡ g i) → tabulate n f ≡ tabulate n g
 tabulate-ext n f g same =
     ext_get_or 0 (tabulate n f) (tabulate n g) (length-tabulate n f ∙ sym (length-tabulate n g))
-    (λ i l. let h : i < n = rw length-tabulate at l in get_d_tabulate n f i 0 h ∙ same i h ∙ sym (get_d_tabulate n g i 0 h))
+    (λ i l. let h : i < n = rw length-tabulate at l in get_or-tabulate n f i 0 h ∙ same i h ∙ sym (get_or-tabulate n g i 0 h))
 
 pub tabulate-part : (n from k : ℕ) (f : ℕ → ℕ) → take k (drop from (tabulate n f)) ≡ tabulate (min k (n - from)) (λ i. f (from + i))
 tabulate-part n from k f =
@@ -64,7 +64,7 @@ tabulate-part n from k f =
     (λ i l.
     let h : i < min k (n - from) = rw long at l in
     get_or-take k (drop from (tabulate n f)) i 0 (omega arith) ∙ get_or-drop from (tabulate n f) i 0
-    ∙ get_d_tabulate n f (from + i) 0 (omega arith) ∙ sym (get_d_tabulate (min k (n - from)) (λ j. f (from + j)) i 0 h))
+    ∙ get_or-tabulate n f (from + i) 0 (omega arith) ∙ sym (get_or-tabulate (min k (n - from)) (λ j. f (from + j)) i 0 h))
 
 -- a part of a list, by the rule for its places
 pub part-tabulate : (xs : List ℕ) (a k : ℕ) → a + k ≤ length xs → take k (drop a xs) ≡ tabulate k (λ i. get_or xs (a + i) 0)
@@ -74,7 +74,7 @@ part-tabulate xs a k fits =
     ext_get_or 0 part (tabulate k (λ i. get_or xs (a + i) 0)) (long ∙ sym (length-tabulate k (λ i. get_or xs (a + i) 0)))
     (λ i l.
     let h : i < k = rw long at l in
-    get_or-take k (drop a xs) i 0 h ∙ get_or-drop a xs i 0 ∙ sym (get_d_tabulate k (λ j. get_or xs (a + j) 0) i 0 h))
+    get_or-take k (drop a xs) i 0 h ∙ get_or-drop a xs i 0 ∙ sym (get_or-tabulate k (λ j. get_or xs (a + j) 0) i 0 h))
 
 -- a list copied place by place
 pub copied : (l : List ℕ) → tabulate (length l) (λ k. get_or l k 0) ≡ l

@@ -12,7 +12,7 @@ use lib.Dec.{eqb}
 use lib.ListN.{length, take, drop, replicate, length-drop, take-append-drop}
 use lib.Seq.{take-add, drop-drop, ext_get_or}
 use Rattle.basics.specs.Lists.{all_zero, tabulate}
-use Rattle.basics.proofs.Lists.{length-tabulate, get_d_tabulate}
+use Rattle.basics.proofs.Lists.{length-tabulate, get_or-tabulate}
 use Rattle.basics.proofs.Tests.{and_left, and_right}
 use Rattle.archive.specs.Layout.{Layout, all_files, limit_of, size_of, base_of, layout_size}
 use Rattle.archive.specs.Ring.{Ring, HoldsAll}
@@ -63,4 +63,4 @@ module _ (l : Layout) (a : Archive) (lists : ℕ → List (List ℕ)) (all : All
       ext_get_or 0 a.pointers (tabulate all_files (pointer_of l lists)) (all.numbered ∙ sym (length-tabulate all_files (pointer_of l lists)))
       (λ f below.
       let file : f < all_files = omega (arith, below, all.numbered) in
-      (all.files f file).points ∙ sym (get_d_tabulate all_files (pointer_of l lists) f 0 file))
+      (all.files f file).points ∙ sym (get_or-tabulate all_files (pointer_of l lists) f 0 file))

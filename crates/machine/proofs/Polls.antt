@@ -9,7 +9,7 @@ use lib.Dec.{eqb, ltb}
 use lib.ListN.{length, get_or}
 use Rattle.basics.specs.Card.{Card, card, done_card, done_no, table_no, reply_no}
 use Rattle.basics.specs.Lists.{pasted}
-use Rattle.basics.proofs.Lists.{get_d_tabulate}
+use Rattle.basics.proofs.Lists.{get_or-tabulate}
 use Rattle.points.specs.Table.{table_bytes}
 use Rattle.archive.specs.Layout.{all_files}
 use Rattle.polls.specs.View.{View}
@@ -29,7 +29,7 @@ module _ (M : Machine) (m : List ℕ) (good : Good M m) where
   -- ---- the two views
   pub points : (f : ℕ) → f < all_files → get_or (pointers_of (layout M) M.files.lists) f 0 ≡ pointer_of (layout M) M.files.lists f
   unfolding pointers_of
-  points f below = get_d_tabulate all_files (pointer_of (layout M) M.files.lists) f 0 below
+  points f below = get_or-tabulate all_files (pointer_of (layout M) M.files.lists) f 0 below
 
   pub views-agree : (table : List ℕ) → Agree (poll_view (state_of M) m table) (view_of M table)
   unfolding poll_view view_of state_of

@@ -1,8 +1,8 @@
 -- A 03 for the whole record, by both ways, replies with the bytes at the record's place in archive memory, and with exception 03 where
 -- there is no such record. Assumes nothing.
---     record-reply, exception-reply    what a poll sees decides: the reply to a 03 for record k is what it reads as, or exception 03
+--     record-reply, exception_reply_lem    what a poll sees decides: the reply to a 03 for record k is what it reads as, or exception 03
 --     unit_kept, depth-kept    after any list unit and depth are by what Fresh was given
---     same_bytes, past-the-end    the two replies after any list
+--     same_bytes, past_the_end    the two replies after any list
 --     old-driver      so that the alarm file of firmware 73 ends behind record 150
 use mathlib.Core.Path.{◌≡◌, refl, sym, ap, ap₂, ◌∙◌, subst}
 use mathlib.Core.List.{List}

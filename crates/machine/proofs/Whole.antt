@@ -1,6 +1,6 @@
 -- Demand 3, a single claim about the whole list of calls. Assumes nothing.
---     each_list_follows  the claim
---     ended       the same, with what is carried along the list, for what is said of its end
+--     each_list_follows    the claim
+--     ended                the same, with what is carried along the list, for what is said of its end
 use mathlib.Core.Path.{◌≡◌, refl, ap, ap₂, ◌∙◌, subst}
 use mathlib.Core.List.{List, ◌∷◌}
 use mathlib.Core.Bool.{Bool}

@@ -16,7 +16,7 @@ use lib.Bits.{bit_xor, differ, xor_step, xor_shr, xor_mod, xor_shifted}
 use lib.Dec.{eqb}
 use lib.ListN.{get_or}
 use Rattle.basics.specs.Lists.{tabulate}
-use Rattle.basics.proofs.Lists.{get_d_tabulate}
+use Rattle.basics.proofs.Lists.{get_or-tabulate}
 use Rattle.modbus.specs.Crc.{crc_shift, crc_shifts, crc_byte}
 use Rattle.modbus.proofs.Laws.{shifts_fit}
 
@@ -72,7 +72,7 @@ abbrev pub crc_steps : List ℕ
 crc_steps = tabulate 256 (λ k. crc_shifts 8 k)
 
 pub step-at : (steps : List ℕ) (k : ℕ) → steps ≡ crc_steps → k < 256 → get_or steps k 0 ≡ crc_shifts 8 k
-step-at steps k is below = ap (λ t. get_or t k 0) is ∙ get_d_tabulate 256 (λ j. crc_shifts 8 j) k 0 below
+step-at steps k is below = ap (λ t. get_or t k 0) is ∙ get_or-tabulate 256 (λ j. crc_shifts 8 j) k 0 below
 
 pub step_fits : (steps : List ℕ) (k : ℕ) → steps ≡ crc_steps → k < 256 → get_or steps k 0 < 2 ^ 16
 step_fits steps k is below = rw (step-at steps k is below) (shifts_fit 8 k (omega arith))

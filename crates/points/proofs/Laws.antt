@@ -2,7 +2,7 @@
 --     row_here, row-past    the lookup from row i on, by the test on row i
 --     lookup-sound          what a computed test says of every row holds of the row that the lookup gives
 --     boolean-inside, boolean-is, float-inside, float_is    a point that is a Boolean or 0, or a float or 0, and is not 0: its bounds and its row
---     boolean-row, boolean-found, boolean-point    a Boolean point and its row
+--     boolean_row_lem, boolean-found, boolean_point_lem    a Boolean point and its row
 --     float_size            a float has four bytes
 --     group-of-run, group-of-one    points of a row that are a group
 --     group-size-small     a group adds at most the live table's bytes
@@ -199,16 +199,16 @@ group-of-one p r e = group-of-run p 1 r e (omega arith) (le-leb (p + 1) (r.last 
 
 -- ---- points of one row, or 0
 -- a point of row r, or 0, that is not 0
-in-row : (r : Row) (p : ℕ) → in_row_or_none r p ≡ true → (p ≡ 0 → ⊥) → (r.first ≤ p) × (p ≤ r.last)
+in_row_lem : (r : Row) (p : ℕ) → in_row_or_none r p ≡ true → (p ≡ 0 → ⊥) → (r.first ≤ p) × (p ≤ r.last)
 unfolding in_row
-in-row r p ok some =
+in_row_lem r p ok some =
     let both : (leb r.first p && leb p r.last) ≡ true = simp (ne_eqb p 0 some) at ok in
     (leb-true _ _ (and_left (leb r.first p) (leb p r.last) both), leb-true _ _ (and_right (leb r.first p) (leb p r.last) both))
 
 -- a Boolean point, and its row
 pub boolean-inside : (p : ℕ) → boolean_or_none p ≡ true → (p ≡ 0 → ⊥) → (1801 ≤ p) × (p ≤ 1928)
 unfolding boolean_or_none
-boolean-inside p ok some = in-row boolean_row p ok some
+boolean-inside p ok some = in_row_lem boolean_row p ok some
 
 boolean-looked : (p : ℕ) → 1801 ≤ p → p ≤ 1928 → row_of p ≡ In boolean_row
 unfolding row_of row_in rows in_row
@@ -240,7 +240,7 @@ boolean_point_lem i below =
 -- a float point, its row and its four bytes
 pub float-inside : (p : ℕ) → float_or_none p ≡ true → (p ≡ 0 → ⊥) → (7101 ≤ p) × (p ≤ 7228)
 unfolding float_or_none
-float-inside p ok some = in-row float_row p ok some
+float-inside p ok some = in_row_lem float_row p ok some
 
 -- a point behind a row is not in it
 behind : (r : Row) (p : ℕ) → r.last < p → in_row r p ≡ false

@@ -1,5 +1,5 @@
 -- Laws of what a frame asks. Assumes nothing.
---     on-file, on-registers   the file, or the register, of an address that is in its row
+--     on_file_lem, on-registers   the file, or the register, of an address that is in its row
 --     asked-passed            what is asked has passed its checks
 --     length-registers, registers-by, registers-put    the bytes of registers: how many, by each, and one more in a reply buffer
 --     live-captured           the bytes of live points are those of a captured group

@@ -62,7 +62,7 @@ pub fn send_registers(
     count: usize,
 ) -> usize
     requires lent_registers { LentRegisters limits.now pointers.now requested.now }
-    requires count_bound { (first + count ≤ 33) × (256 ≤ length buffer.old) }
+    requires bounds { (first + count ≤ 33) × (256 ≤ length buffer.old) }
     ensures { Sent
         (read_reply unit (register_bytes (register_view limits.now depth pointers.now requested.now) first count))
         buffer.old result buffer.new }

@@ -2,7 +2,7 @@
 --     frame-good       what a frame is that is not refused
 --     stretch-good     what a place is whose stretch is not refused
 --     two_bytes, four_bytes    numbers from bytes
---     value-of, flag-of        a point's value in a stretch, by kind
+--     value_of_lem, flag-of    a point's value in a stretch, by kind
 --     lent-record, lent-point, lent-size, lent-bytes, lent-place    what the inner functions are handed
 use mathlib.Core.Path.{◌≡◌, refl, sym, ap, ap₂, ◌∙◌, subst}
 use mathlib.Core.List.{List, [], ◌∷◌}
@@ -150,10 +150,10 @@ four_bytes s i fits =
 
 -- ---- a point's value in a stretch, by kind
 -- a kind of whole bytes
-pub value-of : (r : Row) (stretch : List ℕ) (e : ℕ) (k : Kind) → r.kind ≡ k → r.size ≡ kind_size k → ltb 0 (kind_size k) ≡ true →
+pub value_of_lem : (r : Row) (stretch : List ℕ) (e : ℕ) (k : Kind) → r.kind ≡ k → r.size ≡ kind_size k → ltb 0 (kind_size k) ≡ true →
     value_in_stretch r stretch e ≡ value_of k (take (kind_size k) (drop (e * r.size) stretch))
 unfolding value_in_stretch bytes_in_stretch
-value-of r stretch e k is size wide =
+value_of_lem r stretch e k is size wide =
     let some : r.size ≡ 0 → ⊥ = λ none. omega (arith, ltb-true 0 (kind_size k) wide, size, none) in
     simp (ne_eqb r.size 0 some) (ap₂ (λ x z. value_of x (take z (drop (e * r.size) stretch))) is size)
 

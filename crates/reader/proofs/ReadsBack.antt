@@ -41,7 +41,7 @@ use Rattle.reader.specs.declared.frame.Checked.TheVariants as Checked
 use Rattle.reader.specs.Checked.{checked_card}
 use Rattle.reader.specs.Frame.{is_reply, record_part, record_checked, reply_checked, frame_checked, stretch_checked, stretch_from, stretch_length, stretch_part}
 use Rattle.reader.specs.Answers.{answered, point_in, point_found, point_value, record_answer, stamp_answer, point_answer}
-use Rattle.reader.proofs.Laws.{place-fits, named-is, value-of, flag-of}
+use Rattle.reader.proofs.Laws.{place-fits, named-is, value_of_lem, flag-of}
 use Rattle.reader.specs.ReadsBack.{record_reply, told_by, kind_number, GetsBack}
 use Rattle.reader.proofs.Told.{numbers-tell, table_fits}
 
@@ -70,7 +70,7 @@ text-bytes r stretch i bs size says = go r.kind refl
     never z = absurd (omega arith)
 
     own : (k : Kind) → r.kind ≡ k → ltb 0 (kind_size k) ≡ true → value_of k (take (kind_size k) (drop (i * r.size) stretch)) ≡ text bs
-    own k is wide = sym (value-of r stretch i k is (size ∙ ap kind_size is) wide) ∙ says
+    own k is wide = sym (value_of_lem r stretch i k is (size ∙ ap kind_size is) wide) ∙ says
 
     go : (k : Kind) → r.kind ≡ k → (r.size ≡ 0 → ⊥) × (take r.size (drop (i * r.size) stretch) ≡ bs)
     go Boolean is = let q = sym (flag-of r stretch i is (size ∙ ap kind_size is)) ∙ says in never (cc)

@@ -148,7 +148,7 @@ fn alarm_line(
     day_first: bool,
 )
     requires table_len { length table.now ≡ table_bytes }
-    requires transducer_point_value { float_or_none transducer_point ≡ true }
+    requires transducer_taken { float_or_none transducer_point ≡ true }
 {
     let mut part = [0u8; 22];
     write_alarm(
@@ -167,7 +167,7 @@ fn alarm_line(
 // Writes one alarm record month first, then day first.
 fn show_alarm(table: &[u8], point: u16, alarm_type: u8, new: bool, transducer_point: u16)
     requires table_len { length table.now ≡ table_bytes }
-    requires transducer_point_value { float_or_none transducer_point ≡ true }
+    requires transducer_taken { float_or_none transducer_point ≡ true }
 {
     alarm_line(table, point, alarm_type, new, transducer_point, false);
     alarm_line(table, point, alarm_type, new, transducer_point, true);

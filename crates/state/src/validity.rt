@@ -92,9 +92,9 @@ pub fn are_settings_valid<'a>(
     triggers: &'a [u16],
     slots: [Slot; 32],
 ) -> bool
-    requires drafts_len { (length drafts.now ≡ 320) × (length laid.now ≡ 320)
+    requires lengths { (length drafts.now ≡ 320) × (length laid.now ≡ 320)
         × (length triggers.now ≡ 10) }
-    requires laid_value { good_files laid.now ≡ true }
+    requires laid_good { good_files laid.now ≡ true }
     ensures { result ≡ good_files drafts.now && (good_triggers triggers.now && good_slots slots) }
 {
     if !are_drafts_good(drafts, laid) {

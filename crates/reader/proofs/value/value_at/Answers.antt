@@ -7,7 +7,7 @@ use Rattle.points.specs.declared.table.Kind.TheVariants.{Boolean, Int16, Text8, 
 use Rattle.records.specs.Value.{signed}
 use Rattle.reader.specs.Answers.{answered}
 use Rattle.reader.specs.declared.answers.Value.TheVariants as Value
-use Rattle.reader.proofs.Laws.{two_bytes, value-of, flag-of, lent-size, lent-bytes}
+use Rattle.reader.proofs.Laws.{two_bytes, value_of_lem, flag-of, lent-size, lent-bytes}
 use Rattle.reader.proofs.value.value_at.Goals as goal
 
 pub word_at-requires : goal.word_at-requires
@@ -30,7 +30,7 @@ pub returns-in-Int16 : goal.returns-in-Int16
 returns-in-Int16 c =
     let is = c.in-Int16.is in
     let size = lent-size _ _ _ _ Int16 c.requires is in
-    let value = value-of c.args.row c.args.stretch.now c.args.e Int16 is size refl in
+    let value = value_of_lem c.args.row c.args.stretch.now c.args.e Int16 is size refl in
     let at = c.args.from + c.args.e * c.args.row.size in
     let word = two_bytes c.args.stretch.now (c.args.e * c.args.row.size) (lent-bytes _ _ _ _ Int16 c.requires is refl) in
     ap Value.Int16 (to_z-of_z {w = w16} (record { sfits = c.signed16.type_inv }) ∙ c.signed16.ensures ∙ ap (signed 16) (c.word_at.ensures ∙ sym word))
@@ -40,7 +40,7 @@ pub returns-in-Int32 : goal.returns-in-Int32
 returns-in-Int32 c =
     let is = c.in-Int32.is in
     let size = lent-size _ _ _ _ Int32 c.requires is in
-    let value = value-of c.args.row c.args.stretch.now c.args.e Int32 is size refl in
+    let value = value_of_lem c.args.row c.args.stretch.now c.args.e Int32 is size refl in
     let at = c.args.from + c.args.e * c.args.row.size in
     ap Value.Int32 (to_z-of_z {w = w32} (record { sfits = c.signed32.type_inv }) ∙ c.signed32.ensures ∙ ap (signed 32) c.long_at.ensures)
     ∙ sym (ap (λ v. answered v at) value)
@@ -49,7 +49,7 @@ pub returns-in-Float : goal.returns-in-Float
 returns-in-Float c =
     let is = c.in-Float.is in
     let size = lent-size _ _ _ _ Float c.requires is in
-    let value = value-of c.args.row c.args.stretch.now c.args.e Float is size refl in
+    let value = value_of_lem c.args.row c.args.stretch.now c.args.e Float is size refl in
     let at = c.args.from + c.args.e * c.args.row.size in
     ap Value.Float c.long_at-in-Float.ensures
     ∙ sym (ap (λ v. answered v at) value)
@@ -58,7 +58,7 @@ pub returns-in-Text8 : goal.returns-in-Text8
 returns-in-Text8 c =
     let is = c.in-Text8.is in
     let size = lent-size _ _ _ _ Text8 c.requires is in
-    let value = value-of c.args.row c.args.stretch.now c.args.e Text8 is size refl in
+    let value = value_of_lem c.args.row c.args.stretch.now c.args.e Text8 is size refl in
     let at = c.args.from + c.args.e * c.args.row.size in
     let long = length_part c.args.stretch.now (c.args.e * c.args.row.size) 8 (lent-bytes _ _ _ _ Text8 c.requires is refl) in
     ap (Value.Text at) (size ∙ sym long)
@@ -68,7 +68,7 @@ pub returns-in-Text16 : goal.returns-in-Text16
 returns-in-Text16 c =
     let is = c.in-Text16.is in
     let size = lent-size _ _ _ _ Text16 c.requires is in
-    let value = value-of c.args.row c.args.stretch.now c.args.e Text16 is size refl in
+    let value = value_of_lem c.args.row c.args.stretch.now c.args.e Text16 is size refl in
     let at = c.args.from + c.args.e * c.args.row.size in
     let long = length_part c.args.stretch.now (c.args.e * c.args.row.size) 16 (lent-bytes _ _ _ _ Text16 c.requires is refl) in
     ap (Value.Text at) (size ∙ sym long)

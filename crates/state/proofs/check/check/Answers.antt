@@ -20,8 +20,8 @@ returns-then-not-judged c =
     let told = c.refused-then-not-judged.ensures in
     record { number = told ∙ state-foreign _ _ same bad; sized = λ no. absurd (omega (arith, no, told)); deep = λ no. absurd (omega (arith, no, told)) }
 
-pub are_settings_valid-settings_valid-requires-clause-laid_value : goal.are_settings_valid-settings_valid-requires-clause-laid_value
-are_settings_valid-settings_valid-requires-clause-laid_value c = files-good _ _ _ _ (sym c.judge_files-judged.ensures.judged ∙ not-false _ c.if-not-judged.false)
+pub are_settings_valid-settings_valid-requires-clause-laid_good : goal.are_settings_valid-settings_valid-requires-clause-laid_good
+are_settings_valid-settings_valid-requires-clause-laid_good c = files-good _ _ _ _ (sym c.judge_files-judged.ensures.judged ∙ not-false _ c.if-not-judged.false)
 
 pub returns-then-not-is_rest_valid : goal.returns-then-not-is_rest_valid
 unfolding settings_valid site_valid
