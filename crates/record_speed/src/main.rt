@@ -1,6 +1,8 @@
 // Writes one record two million times, for tests/bench to time beside plain Rust. Standard input says which: 'f' is 61 floats, a
 // record of 250 bytes; anything else is the 127 Booleans from 1802 on, which stand one bit off the table's bytes. It prints the sum
 // of one byte of each record, so that no write is idle; tests/bench/expected.py works out the sum apart from it.
+#![tactic(auto)]
+
 ghost use Rattle.points.specs.Groups.{record_size};
 ghost use Rattle.records.specs.Lent.{LentDefinition};
 
@@ -8,10 +10,12 @@ use points::Judged;
 use points::groups::judge;
 use records::record::write_record;
 use records::stamp::Stamp;
+use std::io::{self, Read};
 
 const RECORDS: u32 = 2_000_000;
 
 // Writes the records; a byte of the table changes before each.
+#[tactic(auto, unfolding(points::specs::Groups::record_size))]
 fn run(part: &mut [u8], table: &mut [u8], groups: &[u16]) -> u64
     requires { LentDefinition (record_size groups.now) part.old table.old groups.now }
 {
@@ -25,15 +29,13 @@ fn run(part: &mut [u8], table: &mut [u8], groups: &[u16]) -> u64
     };
     let size = part.len();
     let mut sum: u64 = 0;
-    let mut i: u32 = 0;
-    while i < RECORDS {
+    for i in 0..RECORDS {
         let byte = (i % 256) as u8;
         table[1] = byte;
         table[700] = byte;
         write_record(part, false, stamp, table, groups);
         let at = (i as usize) % size;
         sum = (sum + (part[at] as u64)) % 4_294_967_296;
-        i += 1;
     }
     sum
 }
@@ -65,17 +67,16 @@ fn run_group(point: u16, count: u16) -> u64 {
     run_judged(&mut buffer, &mut table, &groups)
 }
 
-fn main() {
+fn main(rt: HostRuntime) -> io::Result<()> {
     let mut choice = [0u8; 1];
-    let got = libc::read(0, &mut choice);
+    let got = rt.stdin().read(&mut choice)?;
     if got != 1 {
-        return;
+        return Ok(());
     }
     let sum = if choice[0] == b'f' {
         run_group(7101, 61)
     } else {
         run_group(1802, 127)
     };
-    io::print_decimal(1, sum);
-    io::write_all(1, b"\n");
+    println!(rt; "{sum}")
 }
