@@ -1,5 +1,7 @@
 // Prints records and alarm records of fixed groups and slots over one live table, a line of hexadecimal digits each.
 // The program `records` of tests/model prints the same lines apart from this program.
+#![tactic(auto)]
+
 ghost use Rattle.std.specs.Prelude.{◌≡◌, true, ◌<◌, length};
 ghost use Rattle.points.specs.Table.{table_bytes, float_or_none};
 
@@ -8,6 +10,7 @@ use points::groups::judge;
 use records::alarm::write_alarm;
 use records::record::write_record;
 use records::stamp::Stamp;
+use std::io;
 
 // 29 August 2007 11:36:52.
 const STAMP: Stamp = Stamp {
@@ -30,10 +33,8 @@ fn live_table() -> [u8; 1424]
     ensures { length result ≡ table_bytes }
 {
     let mut table = [0u8; 1424];
-    let mut i: usize = 0;
-    while i < 1424 {
-        table[i] = ((i * 37 + 11) % 251) as u8;
-        i += 1;
+    for (i, byte) in table.iter_mut().enumerate() {
+        *byte = ((i * 37 + 11) % 251) as u8;
     }
     table
 }
@@ -46,109 +47,113 @@ fn digit(d: u8) -> u8
 }
 
 // Writes a byte as two digits.
-fn write_byte(b: u8) {
+fn write_byte(rt: &impl Print, b: u8) -> io::Result<()> {
     let text = [digit(b / 16), digit(b % 16)];
-    io::write_all(1, &text);
+    rt.write_all(&text)
 }
 
 // Writes a record's line.
-fn write_line(bytes: &[u8]) {
-    let mut i: usize = 0;
-    while i < bytes.len() {
-        write_byte(bytes[i]);
-        i += 1;
+fn write_line(rt: &impl Print, bytes: &[u8]) -> io::Result<()> {
+    for byte in bytes {
+        write_byte(rt, *byte)?;
     }
-    io::write_all(1, b"\n");
+    println!(rt)
 }
 
 // Writes the record of a definition in a line. A definition that is refused, as none here is, gives the line "refused".
-fn show_record(table: &[u8], groups: &[u16], day_first: bool)
+fn show_record(rt: &impl Print, table: &[u8], groups: &[u16], day_first: bool) -> io::Result<()>
     requires { length table.now ≡ table_bytes }
 {
     let Judged::Good(size) = judge(groups) else {
-        io::write_all(1, b"refused\n");
-        return;
+        return println!(rt; "refused");
     };
-    let mut part = io::buffer();
-    write_record(&mut part[..size], day_first, STAMP, table, groups);
-    write_line(&part[..size]);
+    // A record has at most 250 bytes.
+    let mut part = [0u8; 4096];
+    let lent = &mut part[..size];
+    write_record(lent, day_first, STAMP, table, groups);
+    write_line(rt, lent)
 }
 
 // Writes the record of a single group, at a place counted from 0.
-fn show_group(table: &[u8], place: usize, point: u16, count: u16, day_first: bool)
+fn show_group(
+    rt: &impl Print,
+    table: &[u8],
+    place: usize,
+    point: u16,
+    count: u16,
+    day_first: bool,
+) -> io::Result<()>
     requires { (length table.now ≡ table_bytes) × (place < 16) }
 {
     let mut groups = [0u16; 32];
     groups[2 * place] = point;
     groups[2 * place + 1] = count;
-    show_record(table, &groups, day_first);
+    show_record(rt, table, &groups, day_first)
 }
 
 // Every number of Booleans from point 1801 + a on.
-fn booleans_from(table: &[u8], a: u16)
+fn booleans_from(rt: &impl Print, table: &[u8], a: u16) -> io::Result<()>
     requires { (length table.now ≡ table_bytes) × (a < 128) }
 {
-    let mut n: u16 = 1;
-    while n <= 128 - a {
-        show_group(table, 0, 1801 + a, n, false);
-        n += 1;
+    for n in 1..=128 - a {
+        show_group(rt, table, 0, 1801 + a, n, false)?;
     }
+    Ok(())
 }
 
 // Every group of Booleans that starts in the table's first byte; then, from each later point, the group to the last Boolean.
-fn booleans(table: &[u8])
+fn booleans(rt: &impl Print, table: &[u8]) -> io::Result<()>
     requires { length table.now ≡ table_bytes }
 {
-    let mut a: u16 = 0;
-    while a < 8 {
-        booleans_from(table, a);
-        a += 1;
+    for a in 0..8 {
+        booleans_from(rt, table, a)?;
     }
-    while a < 128 {
-        show_group(table, 0, 1801 + a, 128 - a, false);
-        a += 1;
+    for a in 8..128 {
+        show_group(rt, table, 0, 1801 + a, 128 - a, false)?;
     }
+    Ok(())
 }
 
 // Groups of the other kinds at the last place: as many points as a record or the row holds, then the last point of each row.
-fn last_place(table: &[u8])
+fn last_place(rt: &impl Print, table: &[u8]) -> io::Result<()>
     requires { length table.now ≡ table_bytes }
 {
-    show_group(table, 15, 3001, 64, true);
-    show_group(table, 15, 4001, 30, true);
-    show_group(table, 15, 5101, 61, true);
-    show_group(table, 15, 7101, 61, true);
-    show_group(table, 15, 14001, 15, true);
-    show_group(table, 15, 3064, 1, true);
-    show_group(table, 15, 4032, 1, true);
-    show_group(table, 15, 5164, 1, true);
-    show_group(table, 15, 7228, 1, true);
-    show_group(table, 15, 14016, 1, true);
+    show_group(rt, table, 15, 3001, 64, true)?;
+    show_group(rt, table, 15, 4001, 30, true)?;
+    show_group(rt, table, 15, 5101, 61, true)?;
+    show_group(rt, table, 15, 7101, 61, true)?;
+    show_group(rt, table, 15, 14001, 15, true)?;
+    show_group(rt, table, 15, 3064, 1, true)?;
+    show_group(rt, table, 15, 4032, 1, true)?;
+    show_group(rt, table, 15, 5164, 1, true)?;
+    show_group(rt, table, 15, 7228, 1, true)?;
+    show_group(rt, table, 15, 14016, 1, true)
 }
 
 // The mixed groups, and no groups at all, in both date orders.
-fn definitions(table: &[u8])
+fn definitions(rt: &impl Print, table: &[u8]) -> io::Result<()>
     requires { length table.now ≡ table_bytes }
 {
     let mixed = MIXED;
-    show_record(table, &mixed, false);
-    show_record(table, &mixed, true);
+    show_record(rt, table, &mixed, false)?;
+    show_record(rt, table, &mixed, true)?;
     let none = [0u16; 32];
-    show_record(table, &none, false);
-    show_record(table, &none, true);
+    show_record(rt, table, &none, false)?;
+    show_record(rt, table, &none, true)
 }
 
 // Writes one alarm record in a line.
 fn alarm_line(
+    rt: &impl Print,
     table: &[u8],
     point: u16,
     alarm_type: u8,
     new: bool,
     transducer_point: u16,
     day_first: bool,
-)
+) -> io::Result<()>
     requires table_len { length table.now ≡ table_bytes }
-    requires transducer_taken { float_or_none transducer_point ≡ true }
+    requires transducer_point_value { float_or_none transducer_point ≡ true }
 {
     let mut part = [0u8; 22];
     write_alarm(
@@ -161,32 +166,40 @@ fn alarm_line(
         new,
         transducer_point,
     );
-    write_line(&part);
+    write_line(rt, &part)
 }
 
 // Writes one alarm record month first, then day first.
-fn show_alarm(table: &[u8], point: u16, alarm_type: u8, new: bool, transducer_point: u16)
+fn show_alarm(
+    rt: &impl Print,
+    table: &[u8],
+    point: u16,
+    alarm_type: u8,
+    new: bool,
+    transducer_point: u16,
+) -> io::Result<()>
     requires table_len { length table.now ≡ table_bytes }
-    requires transducer_taken { float_or_none transducer_point ≡ true }
+    requires transducer_point_value { float_or_none transducer_point ≡ true }
 {
-    alarm_line(table, point, alarm_type, new, transducer_point, false);
-    alarm_line(table, point, alarm_type, new, transducer_point, true);
+    alarm_line(rt, table, point, alarm_type, new, transducer_point, false)?;
+    alarm_line(rt, table, point, alarm_type, new, transducer_point, true)
 }
 
 // A first and a last Boolean and one between them, with a first and a last float point and none.
-fn alarms(table: &[u8])
+#[tactic(auto, unfolding(points::specs::Table::float_or_none, points::specs::Table::in_row,))]
+fn alarms(rt: &impl Print, table: &[u8]) -> io::Result<()>
     requires { length table.now ≡ table_bytes }
 {
-    show_alarm(table, 1801, 0, true, 7101);
-    show_alarm(table, 1928, 3, false, 0);
-    show_alarm(table, 1850, 2, true, 7228);
+    show_alarm(rt, table, 1801, 0, true, 7101)?;
+    show_alarm(rt, table, 1928, 3, false, 0)?;
+    show_alarm(rt, table, 1850, 2, true, 7228)
 }
 
 // The live table, and over it the Booleans, the other kinds, whole definitions and alarm records.
-fn main() {
+fn main(rt: HostRuntime) -> io::Result<()> {
     let table = live_table();
-    booleans(&table);
-    last_place(&table);
-    definitions(&table);
-    alarms(&table);
+    booleans(&rt, &table)?;
+    last_place(&rt, &table)?;
+    definitions(&rt, &table)?;
+    alarms(&rt, &table)
 }
