@@ -153,7 +153,7 @@ fn alarm_line(
     day_first: bool,
 ) -> io::Result<()>
     requires table_len { length table.now ≡ table_bytes }
-    requires transducer_point_value { float_or_none transducer_point ≡ true }
+    requires transducer_taken { float_or_none transducer_point ≡ true }
 {
     let mut part = [0u8; 22];
     write_alarm(
@@ -179,7 +179,7 @@ fn show_alarm(
     transducer_point: u16,
 ) -> io::Result<()>
     requires table_len { length table.now ≡ table_bytes }
-    requires transducer_point_value { float_or_none transducer_point ≡ true }
+    requires transducer_taken { float_or_none transducer_point ≡ true }
 {
     alarm_line(rt, table, point, alarm_type, new, transducer_point, false)?;
     alarm_line(rt, table, point, alarm_type, new, transducer_point, true)
