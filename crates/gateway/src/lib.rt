@@ -1,4 +1,4 @@
-// The gateway: the calls of the plain machine, exported for its firmware.
+// The gateway: the calls of the plain machine. Firmware links them by `gateway_c`.
 #![tactic(auto)]
 
 pub mod calls;

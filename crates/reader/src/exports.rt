@@ -1,4 +1,4 @@
-// What site drivers in C link: include/windrow_reader.h has the same functions with their comments for C.
+// What site drivers in C link, by `reader_c`: include/windrow_reader.h has the same functions with their comments for C.
 ghost use Rattle.std.specs.Prelude.{◌≡◌};
 ghost use Rattle.modbus.specs.Crc.{crc_of};
 ghost use Rattle.reader.specs.Answers.{record_answer, stamp_answer, stretch_answer, plain_answer, point_answer, point_value};

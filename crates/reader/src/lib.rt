@@ -1,4 +1,5 @@
-// The reading end: decodes a reply frame for site software. `exports` has what C links; the other modules do the work.
+// The reading end: decodes a reply frame for site software. `exports` has the calls that C links by `reader_c`; the other modules do the
+// work.
 #![tactic(auto)]
 
 pub mod answers;
