@@ -2,14 +2,12 @@
 --     every-list-runs    from any state and memory
 --     every-list-ran     from an accepted Fresh
 --     read-frame         and every 03 can be sent
-use mathlib.Core.Path.{◌≡◌, refl, ap, ◌∙◌}
+use mathlib.Core.Path.{refl, ap, ◌∙◌}
 use mathlib.Core.List.{List, [], ◌∷◌, ◌++◌}
-use mathlib.Core.Bool.{Bool}
 use Prim.Native.Nat.{ℕ}
 use native.Mathlib.Nat.{div-add-mod'}
 use native.Mathlib.Omega.{arith}
 use lib.ListN.{length}
-use Rattle.basics.specs.Card.{done_card}
 use Rattle.modbus.specs.Word.{word_bytes}
 use Rattle.modbus.specs.Crc.{with_crc}
 use Rattle.modbus.proofs.Laws.{framed-checks}
@@ -19,7 +17,7 @@ use Rattle.gateway.specs.declared.calls.Answer.{Answer}
 use Rattle.gateway.specs.Calls.{unlock_answer, lock_answer, stop_answer, trigger_answer, alarm_answer, define_answer, start_answer, start_memory, fresh_answer, fresh_memory, MadeFresh}
 use Rattle.gateway.specs.Scan.{scan_answer, scan_memory}
 use Rattle.gateway.specs.Poll.{poll_answer, poll_buffer}
-use Rattle.machine.specs.Machine.{Call, unlock, lock, stop, start, define, trigger, alarm, scan, poll, Outcome, fresh_card}
+use Rattle.machine.specs.Machine.{Call, unlock, lock, stop, start, define, trigger, alarm, scan, poll, Outcome}
 use Rattle.machine.specs.Runs.{Answering, Meets, none, next, EachListRuns, EachFreshBegins}
 use Rattle.machine.specs.Readings.{Read}
 use Rattle.machine.proofs.Start.{fresh-answers}

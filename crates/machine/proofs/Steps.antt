@@ -13,7 +13,6 @@ use lib.ListN.{length}
 use Rattle.basics.specs.Card.{Card, card, done_card, done_no, file_no, locked_no, trigger_no, running_no, alarm_no}
 use Rattle.basics.specs.Numbers.{within}
 use Rattle.points.specs.declared.groups.Judged.{Judged}
-use Rattle.points.specs.declared.groups.Judged.TheVariants as Judged
 use Rattle.points.specs.Card.{card_of}
 use Rattle.points.specs.Table.{boolean_or_none}
 use Rattle.points.specs.Groups.{judged, judged_card}
