@@ -19,11 +19,12 @@ all: programs
 programs: $(built)
 libraries: $(libraries)
 
-# rt proves what is not proved yet before it links; what it has proved it keeps in target/.
-sources := crates.txt $(shell find crates -name '*.rt' -o -name '*.antt')
+# What C calls of a library is exported by a thin crate over it, whose archive gets the library's name. rt proves what is not proved
+# yet before it links; what it has proved it keeps in crates/*/out, copies of sources among it.
+sources := crates.txt $(shell find crates -name out -prune -o \( -name '*.rt' -o -name '*.antt' \) -print)
 target/staticlib/lib%.a: $(sources)
-	rt staticlib $*
-	@touch $@
+	cd crates/$*_c && rt lib
+	@install -D -m 644 crates/$*_c/out/lib$*_c.a $@
 
 target/apps/%.o: apps/%.c $(wildcard apps/*.h) $(headers)
 	@mkdir -p target/apps
@@ -60,4 +61,4 @@ install: programs
 	@$(call pc,gateway,the archive and the Modbus answers of the windrow gateway for firmware)
 
 clean:
-	rm -rf target
+	rm -rf target crates/*/out
