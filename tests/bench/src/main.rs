@@ -3,7 +3,7 @@
 //!
 //!     bench [frame_check]
 //!
-//! With the word only the frame check is timed. The status is 1 where that takes longer than document 02, L7, allows.
+//! With the word only the frame check is timed. The status is 1 where that takes longer than it may: frame_check.rs has the limit.
 
 mod calls;
 mod expert;
@@ -23,6 +23,8 @@ use model::points::{groups_from_first_place, record_size};
 use model::record::{captured_record, AUGUST};
 use reader::{ffi, random};
 
+/// The Rattle program.
+const RECORD_SPEED: &str = "crates/record_speed/out/record_speed";
 /// As many as crates/record_speed writes.
 const RECORDS: u32 = 2_000_000;
 const DECODES: u32 = 2_000;
@@ -40,15 +42,15 @@ fn best(mut once: impl FnMut()) -> Duration {
         .unwrap()
 }
 
-/// The Rattle program, which is handed its case on standard input; the time is that of the whole process.
+/// The Rattle program is handed its case on standard input; the time is that of the whole process.
 fn proved_records(case: &str) -> (Duration, u64) {
     let mut sum = 0;
     let time = best(|| {
-        let mut child = Command::new("target/bin/record_speed")
+        let mut child = Command::new(RECORD_SPEED)
             .stdin(Stdio::piped())
             .stdout(Stdio::piped())
             .spawn()
-            .expect("target/bin/record_speed: run `rt check record_speed` first");
+            .unwrap_or_else(|error| panic!("{RECORD_SPEED}: {error}: `rt ci` makes it"));
         child.stdin.take().unwrap().write_all(case.as_bytes()).unwrap();
         let output = child.wait_with_output().unwrap().stdout;
         sum = String::from_utf8(output).unwrap().trim().parse().unwrap();
