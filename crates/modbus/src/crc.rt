@@ -26,6 +26,7 @@ pub fn crc_of(s: &[u8]) -> u16
 }
 
 // Whether a frame of any length ends in the CRC of what is before, low byte first.
+#[tactic(auto, unfolding(crate::specs::Crc::ends_in_crc))]
 pub fn ends_in_crc(frame: &[u8]) -> bool
     ensures { result ≡ ends_in_crc frame.now }
 {

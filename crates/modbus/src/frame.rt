@@ -44,6 +44,7 @@ pub fn close_read_reply(buffer: &mut [u8], unit: u8, function: u8, size: usize) 
 }
 
 // A function with its highest bit set.
+#[tactic(auto, unfolding(crate::specs::Frame::high_bit_set))]
 fn high_bit_set(function: u8) -> u8
     ensures { result ≡ high_bit_set function }
 {

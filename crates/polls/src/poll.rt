@@ -25,6 +25,7 @@ pub struct Answered {
 const STAMP_SIZE: usize = 6;
 
 // Whether a frame has a request's length and the right CRC.
+#[tactic(auto, unfolding(crate::specs::Frames::is_heard))]
 fn is_heard(frame: &[u8]) -> bool
     ensures { result ≡ is_heard frame.now }
 {

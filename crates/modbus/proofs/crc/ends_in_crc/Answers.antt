@@ -1,12 +1,8 @@
 use mathlib.Core.Bool.{and-true}
-use borrow.Author.Tests.{le-leb, lt-leb, eq-eqb, ne_eqb}
+use borrow.Author.Tests.{le-leb, eq-eqb, ne_eqb}
 use Rattle.modbus.specs.Crc.{ends_in_crc}
 use Rattle.modbus.proofs.Laws.{last-two}
 use Rattle.modbus.proofs.crc.ends_in_crc.Goals as goal
-
-pub returns-then-n-lt2 : goal.returns-then-n-lt2
-unfolding ends_in_crc
-returns-then-n-lt2 c = simp (lt-leb _ _ c.if-n-lt2.true)
 
 pub returns-then-frame-n : goal.returns-then-frame-n
 unfolding ends_in_crc
