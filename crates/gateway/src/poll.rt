@@ -1,7 +1,8 @@
 // The poll, document 01, "Frames", and document 02, L3: a frame answered in the reply buffer that it will be sent from.
-ghost use Rattle.std.specs.Prelude.{◌≡◌};
+ghost use Rattle.std.specs.Prelude.{◌≡◌, length};
 ghost use Rattle.basics.specs.Card.{first_of};
-ghost use Rattle.gateway.specs.Poll.{lent_number, Polled};
+ghost use Rattle.archive.specs.Layout.{all_files};
+ghost use Rattle.gateway.specs.Poll.{lent_number, poll_told, Polled};
 
 use basics::card::{DONE, REPLY, TABLE};
 use points::table::TABLE_BYTES;
@@ -37,31 +38,40 @@ fn poll_number(number: u32, table_size: usize, buffer_size: usize) -> u32
     DONE
 }
 
-// Poll: answers a frame of any length and content at the start of the reply buffer, from the archive or the live table. Bytes past the
-// reply are left as they were.
-pub fn windrow_gateway_poll(
-    s: State,
+// The requested numbers. That there is one for each file is told here, where the line stands alone.
+fn requested_of(line: &Line) -> [u16; 11]
+    ensures same { result ≡ line.now.requested }
+    ensures each { length result ≡ all_files }
+{
+    line.requested
+}
+
+// What a poll tells beside the state that it leaves: the card's number, and the reply's length, 0 for none.
+#[derive(Clone, Copy)]
+pub struct PollTold {
+    pub number: u32,
+    pub length: u32,
+}
+
+// A poll of a state where it stands: answers a frame of any length and content at the start of the reply buffer, from the archive or the
+// live table. Bytes past the reply are left as they were.
+pub fn poll_in_place(
+    s: &mut State,
     archive: &[u8],
     table: &[u8],
     frame: &[u8],
     reply: &mut [u8],
-) -> PollAnswer
-    ensures { Polled s archive.now table.now frame.now reply.old result
-        archive.now table.now reply.new }
+) -> PollTold
+    ensures { Polled s.old archive.now table.now frame.now reply.old
+        (poll_told s.new result.number result.length) archive.now table.now reply.new }
 {
-    let checked = check(s, archive.len());
+    let checked = check(*s, archive.len());
     let number = poll_number(checked.number, table.len(), reply.len());
     if number != DONE {
-        return PollAnswer {
-            number,
-            length: 0,
-            state: s,
-        };
+        return PollTold { number, length: 0 };
     }
-    // The answer's state is made before the reply is: past the reply's stores the compiler would copy it once more. What a poll looks
-    // at is lent out of it.
-    let mut state = s;
-    let requested = state.line.requested;
+    let state = &*s;
+    let requested = requested_of(&state.line);
     let answered = answer(
         reply,
         state.site.unit,
@@ -77,10 +87,29 @@ pub fn windrow_gateway_poll(
     );
     let numbers = answered.requested;
     let line = Line { requested: numbers };
-    state.line = line;
-    PollAnswer {
+    s.line = line;
+    PollTold {
         number: DONE,
         length: answered.length as u32,
+    }
+}
+
+// The poll of a state by value. The state is copied once, and no more: a poll is promised little stack.
+pub fn windrow_gateway_poll(
+    s: State,
+    archive: &[u8],
+    table: &[u8],
+    frame: &[u8],
+    reply: &mut [u8],
+) -> PollAnswer
+    ensures { Polled s archive.now table.now frame.now reply.old result
+        archive.now table.now reply.new }
+{
+    let mut state = s;
+    let told = poll_in_place(&mut state, archive, table, frame, reply);
+    PollAnswer {
+        number: told.number,
+        length: told.length,
         state,
     }
 }

@@ -119,5 +119,12 @@ pub extern "C" fn windrow_gateway_poll(
     ensures { Polled s archive.now table.now frame.now reply.old result
         archive.now table.now reply.new }
 {
-    poll::windrow_gateway_poll(s, archive, table, frame, reply)
+    // Not by the library's `windrow_gateway_poll`: the compiler would have a place of its own for its answer, 1.6 KB of stack more.
+    let mut state = s;
+    let told = poll::poll_in_place(&mut state, archive, table, frame, reply);
+    PollAnswer {
+        number: told.number,
+        length: told.length,
+        state,
+    }
 }

@@ -122,7 +122,9 @@ fn reply_to(
 }
 
 // Answers a frame of any length and content: all checks come before the first byte of the reply. Parts of one state can be lent
-// together only for one lifetime.
+// together only for one lifetime. It is not put into its caller: what it keeps would lie on the stack while the state is checked, where a
+// poll is deepest.
+#[inline(never)]
 pub fn answer<'a>(
     buffer: &mut [u8],
     unit: u8,
