@@ -14,7 +14,7 @@ pub fn is_within(lo: u32, hi: u32, x: u32) -> bool
     (lo <= x) & (x <= hi)
 }
 
-// Copies a slice into one of its length. Without generics there is one for each width.
+// Copies a slice into one of its length; there is one for each width.
 pub fn copy_bytes(to: &mut [u8], bytes: &[u8])
     requires { length to.old ≡ length bytes.now }
     ensures { to.new ≡ bytes.now }

@@ -1,5 +1,5 @@
-// The marked cases of document 01, cases of document 02, and a run of the plain machine for each firmware, computed on the definitions;
-// see specs/Marked.antt, specs/Run.antt and specs/OlderRun.antt.
+// The marked cases, inputs with what the rules give for them, and a run of the plain machine for each firmware, computed on the
+// definitions; see specs/Marked.antt, specs/Run.antt and specs/OlderRun.antt.
 #![tactic(auto)]
 
 ghost use Rattle.std.specs.Prelude.{◌≡◌, true};

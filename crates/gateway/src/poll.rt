@@ -1,4 +1,4 @@
-// The poll, document 01, "Frames", and document 02, L3: a frame answered in the reply buffer that it will be sent from.
+// The poll: a frame answered in the reply buffer that it will be sent from.
 ghost use Rattle.std.specs.Prelude.{◌≡◌, length};
 ghost use Rattle.basics.specs.Card.{first_of};
 ghost use Rattle.archive.specs.Layout.{all_files};
@@ -94,7 +94,7 @@ pub fn poll_in_place(
     }
 }
 
-// The poll of a state by value. The state is copied once, and no more: a poll is promised little stack.
+// The poll of a state by value, as `machine` speaks of it. What C calls does the same over `poll_in_place`, with less stack.
 pub fn windrow_gateway_poll(
     s: State,
     archive: &[u8],

@@ -1,4 +1,4 @@
--- Demand 2 from end to end: from a scan of a list, by a poll after it, to the reading end's answers. Assumes nothing.
+-- What was captured comes back: from a scan of a list, by a poll after it, to the reading end's answers. Assumes nothing.
 --     tells-empty             a reply of zeros is told as Empty (15)
 --     each_poll_reads_back    the claim
 use mathlib.Core.Path.{◌≡◌, refl, sym, ap, ◌∙◌, subst}

@@ -1,5 +1,5 @@
 -- A scan that met its contract is the machine's step. Assumes nothing.
---     scan_steps    the step: every file's list has what the scan appends, and the pointers are demand 3's
+--     scan_steps    the step: every file's list has what the scan appends, and the pointers are by its formula
 use mathlib.Core.Path.{◌≡◌, refl, sym, ap, ◌∙◌, subst}
 use mathlib.Core.List.{List}
 use mathlib.Core.Bool.{Bool, true, false, cond, not, ◌&&◌}

@@ -1,4 +1,4 @@
--- Demand 3, a single claim about the whole list of calls. Assumes nothing.
+-- The claim about whole lists of calls, in one. Assumes nothing.
 --     each_list_follows    the claim
 --     ended                the same, with what is carried along the list, for what is said of its end
 use mathlib.Core.Path.{◌≡◌, refl, ap, ap₂, ◌∙◌, subst}

@@ -1,6 +1,6 @@
--- Demand 2 from end to end: what was captured comes back. A poll of record k after a list of calls sends a record that an accepted scan
+-- What was captured comes back, from end to end. A poll of record k after a list of calls sends a record that an accepted scan
 -- of the list made, and from that frame the reading end gets the scan's stamp and every point's kind and value, of a text the cleaned
--- one (document 02, L5); or zeros, told as Empty.
+-- one; or zeros, told as Empty.
 use Rattle.std.specs.Prelude.{◌≡◌, Bool, true, ℕ, ◌<◌, length, take, replicate}
 use mathlib.Core.List.{List, [], Memᴰ}
 use Rattle.basics.specs.Card.{card, empty_no}

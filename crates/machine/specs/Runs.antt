@@ -1,4 +1,4 @@
--- Demand 3, a single claim about the whole list of calls. A step of a list is the very contract that the exported function promises.
+-- One claim about the whole list of calls. A step of a list is the very contract that the exported function promises.
 use Rattle.std.specs.Prelude.{◌≡◌, List, [], ◌∷◌, Bool, ℕ, length}
 use Rattle.basics.specs.Card.{card, done_no, done_card}
 use Rattle.state.specs.declared.parts.State.{State}
@@ -50,7 +50,7 @@ pub record Ran (day_first : Bool) (unit firmware : ℕ) (m₀ : List ℕ) (cs : 
   pub taken : began.number ≡ done_no
   pub runs : Runs began.state zeroed cs os s m
 
--- ---- demand 3: every outcome is the machine's, and so are state and memory at the end
+-- ---- the claim: every outcome is the machine's, and so are state and memory at the end
 pub record Follows (M : Machine) (cs : List Call) (os : List Outcome) (s : State) (m : List ℕ) : Type 0 where
   pub answers : os ≡ outcomes M cs
   pub state : s ≡ state_of (after M cs)

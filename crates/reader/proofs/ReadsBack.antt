@@ -1,6 +1,6 @@
--- Demand 2: from the reply that carries a captured record the reading end gets back date, kind and value of every captured point.
+-- From the reply that carries a captured record the reading end gets back date, kind and value of every captured point.
 -- Assumes nothing.
--- The frame is `read_reply`, the reply that document 01 lays out; that the gateway sends it is `machine`'s demand 2, from end to end.
+-- The frame is `read_reply`; that the gateway sends it is `machine`'s claim, `EachPollReadsBack`, from end to end.
 --     gets_back        the theorem: what the exported calls answer, in numbers, gives back the record's place, its stamp, and for every
 --                      point of every group the kind and value that it has in the table, which is one of bytes
 --     zeros-empty, filled-not-empty    a record of zeros answers Empty, and a filled one never does

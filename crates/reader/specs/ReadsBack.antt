@@ -1,4 +1,5 @@
--- Demand 2, as site software sees it: what the reading end's exported calls answer, in numbers, from the reply that carries a record.
+-- What was captured comes back, as site software sees it: what the reading end's exported calls answer, in numbers, from the reply that
+-- carries a record.
 use Rattle.std.specs.Prelude.{List, ◌≡◌, Bool, cond, ℕ, ◌+◌, ◌-◌, ◌≤◌, eqb, take, drop}
 use Rattle.basics.specs.Card.{done_card, done_no}
 use Rattle.modbus.specs.Frame.{read_reply}
@@ -41,7 +42,7 @@ pub record GetsBack (unit size : ℕ) (d : Bool) (s : Stamp) (t gs : List ℕ) :
   -- the stamp comes back
   pub stamp : stamp_answer gs d (record_reply unit d s t gs) ≡ stamp_told done_card s
   -- at every place and point the answer is done, its kind is the row's, and its numbers tell the value that the point was captured with, of
-  -- a text the cleaned one (document 02, L5)
+  -- a text the cleaned one
   pub point : (g e : ℕ) (r : Row) → 1 ≤ g → g ≤ 16 → group_at gs (g - 1) ≡ Points r → 1 ≤ e → e ≤ count_at gs (g - 1) →
       let answer = point_answer (point_value gs d (record_reply unit d s t gs) g e) in
       (answer.number ≡ done_no) × (answer.kind ≡ kind_number r.kind)
