@@ -1,5 +1,7 @@
--- Document 01, "Numbers on the service card": the numbers in the paper's order, 0 for done, and an answer on the card.
-use Rattle.std.specs.Prelude.{cond, ℕ, eqb}
+-- The service card: the numbers in the paper's order, 0 for done, and what an answer is on the card.
+use Rattle.std.specs.Prelude.{cond, ℕ, eqb, Result, Ok, Err}
+use Rattle.basics.specs.declared.card.Refusal.{Refusal}
+use Rattle.basics.specs.declared.card.Refusal.TheVariants.{Memory, Foreign, Table, Clock, File, Locked, Group, Long, Trigger, Running, Room, Alarm, Reply, Garbled, Empty, Beyond}
 
 -- none applies: the call does its work
 abbrev pub done_no : ℕ
@@ -80,6 +82,31 @@ card n v = record { number = n; carried = v }
 abbrev pub done_card : Card
 done_card = card done_no 0
 
+-- ---- the refusals of the code by their numbers
+abbrev pub card_of : Refusal → Card
+card_of Memory = card memory_no 0
+card_of Foreign = card foreign_no 0
+card_of Table = card table_no 0
+card_of Clock = card clock_no 0
+card_of File = card file_no 0
+card_of Locked = card locked_no 0
+card_of (Group place) = card group_no place
+card_of Long = card long_no 0
+card_of Trigger = card trigger_no 0
+card_of Running = card running_no 0
+card_of Room = card room_no 0
+card_of Alarm = card alarm_no 0
+card_of Reply = card reply_no 0
+card_of Garbled = card garbled_no 0
+card_of Empty = card empty_no 0
+card_of Beyond = card beyond_no 0
+
+-- what is told of an answer: its value is not on the card
+abbrev pub card_told : {A : Type 0} → Result A Refusal → Card
+card_told (Ok value) = done_card
+card_told (Err refusal) = card_of refusal
+
+-- ---- of several
 -- the first of two numbers that is not 0: where both could be answered, the one that is looked at first
 abbrev pub first_of : ℕ → ℕ → ℕ
 first_of a b = cond (eqb a 0) b a

@@ -1,4 +1,4 @@
-// What every other crate shares: the service card's numbers, a test of a range, copies of slices, and in proofs/ facts of logic,
+// What every other crate shares: the service card's refusals, a test of a range, copies of slices, and in proofs/ facts of logic,
 // lists and arithmetic.
 #![tactic(auto)]
 

@@ -3,5 +3,6 @@
 
 pub mod alarm;
 pub mod flags;
+pub mod moment;
 pub mod record;
 pub mod stamp;
