@@ -8,7 +8,7 @@ ghost use Rattle.polls.specs.Lent.{LentRegisters, LentPoints, register_view};
 
 use archive::layout::file_limit;
 use basics::copy_bytes;
-use modbus::frame::{READ, close_read_reply};
+use modbus::frame::{Function, close_read_reply};
 use modbus::word::put_word;
 use points::Row;
 use points::table::points_size;
@@ -21,7 +21,7 @@ pub fn send_bytes(buffer: &mut [u8], unit: u8, archive: &[u8], at: usize, size: 
         buffer.old result buffer.new }
 {
     copy_bytes(&mut buffer[3..3 + size], &archive[at..at + size]);
-    close_read_reply(buffer, unit, READ, size)
+    close_read_reply(buffer, unit, u8::from(Function::Read), size)
 }
 
 // Sends a frame back as it came, and answers its length.
@@ -76,7 +76,7 @@ pub fn send_registers(
         );
         i += 1;
     }
-    close_read_reply(buffer, unit, READ, 2 * count)
+    close_read_reply(buffer, unit, u8::from(Function::Read), 2 * count)
 }
 
 // Sends live points, as a capture has them, as a read reply by the function that asked, and answers its length.

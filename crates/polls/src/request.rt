@@ -7,7 +7,7 @@ ghost use Rattle.polls.specs.Frames.{is_known, asked};
 
 use archive::layout::file_limit;
 use basics::is_within;
-use modbus::frame::{ILLEGAL_ADDRESS, ILLEGAL_FUNCTION, ILLEGAL_VALUE, READ, READ_FLAGS, WRITE};
+use modbus::frame::{Exception, Function};
 use modbus::word::word_at;
 use points::groups::ends_in_row;
 use points::table::{points_size, row_of};
@@ -29,6 +29,18 @@ pub enum Asked {
     // file, and the number that is requested from now on
     SetRequested(usize, u16),
 }
+
+const READ_FLAGS: u8 = Function::ReadFlags as u8;
+
+const READ: u8 = Function::Read as u8;
+
+const WRITE: u8 = Function::Write as u8;
+
+const ILLEGAL_FUNCTION: u8 = Exception::IllegalFunction as u8;
+
+const ILLEGAL_ADDRESS: u8 = Exception::IllegalAddress as u8;
+
+const ILLEGAL_VALUE: u8 = Exception::IllegalValue as u8;
 
 // The first register, and three for each file.
 const FIRST_REGISTER: u16 = 3701;

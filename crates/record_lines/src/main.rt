@@ -39,23 +39,10 @@ fn live_table() -> [u8; 1424]
     table
 }
 
-// A digit's sign, lower case.
-fn digit(d: u8) -> u8
-    requires { d < 16 }
-{
-    if d < 10 { b'0' + d } else { b'a' + (d - 10) }
-}
-
-// Writes a byte as two digits.
-fn write_byte(rt: &impl Print, b: u8) -> io::Result<()> {
-    let text = [digit(b / 16), digit(b % 16)];
-    rt.write_all(&text)
-}
-
 // Writes a record's line.
 fn write_line(rt: &impl Print, bytes: &[u8]) -> io::Result<()> {
     for byte in bytes {
-        write_byte(rt, *byte)?;
+        print!(rt; "{byte:02x}")?;
     }
     println!(rt)
 }

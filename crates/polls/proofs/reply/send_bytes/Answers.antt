@@ -14,4 +14,4 @@ returns c =
     let from : a.at + a.size - a.at ≡ a.size = omega arith in
     closed-part a.buffer.now copy.new.to (take a.size (drop a.at a.archive.now)) close.new.buffer a.unit 3 a.size
     close.result (copy.ensures ∙ ap (λ n. take n (drop a.at a.archive.now)) from)
-    (length_part a.archive.now a.at a.size (omega arith)) (omega arith) close.ensures
+    (length_part a.archive.now a.at a.size (omega arith)) (omega arith) (rw c.from.ensures at close.ensures)

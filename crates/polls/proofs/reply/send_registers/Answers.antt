@@ -31,4 +31,4 @@ returns c =
     let all : at.i ≡ a.count = omega arith in
     closed-over a.buffer.now (register_bytes (register_view a.limits.now a.depth a.pointers.now a.requested.now) a.first a.count) _ a.unit 3 (2 * a.count) _ (length-registers (register_view a.limits.now a.depth a.pointers.now a.requested.now) a.first a.count) (omega arith)
     (subst (λ x. Sent (read_reply a.unit (take (2 * a.count) (drop 3 x))) x close.result close.new.buffer)
-    (at.invariant.2 ∙ ap (λ n. pasted a.buffer.now 3 (register_bytes (register_view a.limits.now a.depth a.pointers.now a.requested.now) a.first n)) all) close.ensures)
+    (at.invariant.2 ∙ ap (λ n. pasted a.buffer.now 3 (register_bytes (register_view a.limits.now a.depth a.pointers.now a.requested.now) a.first n)) all) (rw c.from.ensures at close.ensures))
