@@ -1,5 +1,5 @@
-// Replies, document 01, "Frames", and document 02, L3, built where they are sent from: bytes go once from where they stand, live texts
-// cleaned on the way (L5), to byte 3 of the reply buffer.
+// Replies, built where they are sent from: bytes go once from where they stand, live texts cleaned on the way, to byte 3 of the reply
+// buffer.
 ghost use Rattle.std.specs.Prelude.{◌≡◌, ◌+◌, ◌≤◌, ◌<◌, length, take, drop};
 ghost use Rattle.modbus.specs.Frame.{read_reply, read_reply_by, Sent};
 ghost use Rattle.records.specs.Capture.{captured_points};
