@@ -1,4 +1,4 @@
--- Document 01, "Frames", with document 02, L3: what a poll sees. The rules of frames are stated over this, once for the gateway, which has
+-- What a poll sees. The rules of frames are stated over this, once for the gateway, which has
 -- records in archive memory, and for the plain machine, which has them in lists of captures.
 -- Files are counted from 0, as in the archive's Layout.antt; records from 1.
 use Rattle.std.specs.Prelude.{List, ℕ, get_or}

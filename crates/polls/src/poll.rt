@@ -1,4 +1,4 @@
-// A frame answered, document 01, "Frames", and document 02, L3. The functions take the parts of a gateway's state that a poll looks at.
+// A frame answered. The functions take the parts of a gateway's state that a poll looks at.
 ghost use Rattle.std.specs.Prelude.{◌≡◌, take, drop};
 ghost use Rattle.archive.specs.Layout.{layout_from, limit_of};
 ghost use Rattle.archive.specs.Ring.{record_place};
@@ -12,7 +12,7 @@ use crate::request::{Asked, ask};
 use archive::layout::{File, file_at};
 use archive::ring::record_place;
 use modbus::crc::ends_in_crc;
-use modbus::frame::write_exception;
+use modbus::frame::{Exception, write_exception};
 
 // What a poll leaves: the reply's length, 0 for none, and the requested numbers.
 #[derive(Clone, Copy)]
@@ -20,9 +20,6 @@ pub struct Answered {
     pub length: usize,
     pub requested: [u16; 11],
 }
-
-// A stamp's bytes, the first of each record.
-const STAMP_SIZE: usize = 6;
 
 // Whether a frame has a request's length and the right CRC.
 #[tactic(auto, unfolding(crate::specs::Frames::is_heard))]
@@ -58,27 +55,23 @@ fn send_record(
 }
 
 // The requested numbers that are left by what was asked.
-fn requested_by(asked: Asked, requested: [u16; 11]) -> [u16; 11]
+fn requested_by(asked: Result<Asked, Exception>, requested: [u16; 11]) -> [u16; 11]
     requires { SetsFile asked }
     ensures { result ≡ requested_by asked requested }
 {
     match asked {
-        Asked::Exception(_) => requested,
-        Asked::WholeRecord(_, _) => requested,
-        Asked::StampOnly(_, _) => requested,
-        Asked::Registers(_, _) => requested,
-        Asked::LivePoints(_, _, _) => requested,
-        Asked::SetRequested(f, number) => {
+        Ok(Asked::SetRequested { file, number }) => {
             let mut numbers = requested;
-            numbers[f] = number;
+            numbers[file] = number;
             numbers
         }
+        _ => requested,
     }
 }
 
 // Sends the reply to a frame for our unit by what it asked, and answers the reply's length.
 fn reply_to(
-    asked: Asked,
+    asked: Result<Asked, Exception>,
     buffer: &mut [u8],
     unit: u8,
     frame: &[u8],
@@ -102,22 +95,19 @@ fn reply_to(
         buffer.old result buffer.new }
 {
     match asked {
-        Asked::Exception(code) => write_exception(buffer, unit, frame[1], code),
-        Asked::WholeRecord(f, k) => {
-            let file = file_at(groups, limits, sizes, depth, f);
-            send_record(buffer, unit, archive, file, k, file.size)
+        Err(exception) => write_exception(buffer, unit, frame[1], u8::from(exception)),
+        Ok(Asked::Record { file, number, part }) => {
+            let file = file_at(groups, limits, sizes, depth, file);
+            let size = part.sent_size(file.size);
+            send_record(buffer, unit, archive, file, number, size)
         }
-        Asked::StampOnly(f, k) => {
-            let file = file_at(groups, limits, sizes, depth, f);
-            send_record(buffer, unit, archive, file, k, STAMP_SIZE)
-        }
-        Asked::Registers(first, count) => send_registers(
+        Ok(Asked::Registers { first, count }) => send_registers(
             buffer, unit, limits, depth, pointers, requested, first, count,
         ),
-        Asked::LivePoints(row, point, count) => {
+        Ok(Asked::LivePoints { row, point, count }) => {
             send_points(buffer, unit, frame[1], table, row, point, count)
         }
-        Asked::SetRequested(_, _) => send_echo(buffer, frame),
+        Ok(Asked::SetRequested { .. }) => send_echo(buffer, frame),
     }
 }
 

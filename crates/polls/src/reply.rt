@@ -1,5 +1,5 @@
-// Replies, document 01, "Frames", and document 02, L3, built where they are sent from: bytes go once from where they stand, live texts
-// cleaned on the way (L5), to byte 3 of the reply buffer.
+// Replies, built where they are sent from: bytes go once from where they stand, live texts cleaned on the way, to byte 3 of the reply
+// buffer.
 ghost use Rattle.std.specs.Prelude.{◌≡◌, ◌+◌, ◌≤◌, ◌<◌, length, take, drop};
 ghost use Rattle.modbus.specs.Frame.{read_reply, read_reply_by, Sent};
 ghost use Rattle.records.specs.Capture.{captured_points};
@@ -7,11 +7,9 @@ ghost use Rattle.polls.specs.Frames.{register, register_bytes};
 ghost use Rattle.polls.specs.Lent.{LentRegisters, LentPoints, register_view};
 
 use archive::layout::file_limit;
-use basics::copy_bytes;
 use modbus::frame::{Function, close_read_reply};
 use modbus::word::put_word;
 use points::Row;
-use points::table::points_size;
 use records::record::write_points;
 
 // Sends `size` bytes of archive memory from place `at` on as a read reply, and answers its length.
@@ -20,7 +18,7 @@ pub fn send_bytes(buffer: &mut [u8], unit: u8, archive: &[u8], at: usize, size: 
     ensures { Sent (read_reply unit (take size (drop at archive.now)))
         buffer.old result buffer.new }
 {
-    copy_bytes(&mut buffer[3..3 + size], &archive[at..at + size]);
+    buffer[3..3 + size].copy_from_slice(&archive[at..at + size]);
     close_read_reply(buffer, unit, u8::from(Function::Read), size)
 }
 
@@ -30,7 +28,7 @@ pub fn send_echo(buffer: &mut [u8], frame: &[u8]) -> usize
     ensures { Sent frame.now buffer.old result buffer.new }
 {
     let size = frame.len();
-    copy_bytes(&mut buffer[..size], frame);
+    buffer[..size].copy_from_slice(frame);
     size
 }
 
@@ -94,7 +92,7 @@ pub fn send_points(
         (read_reply_by unit function (captured_points table.now row point count))
         buffer.old result buffer.new }
 {
-    let size = points_size(row, count);
+    let size = row.bytes(count);
     write_points(&mut buffer[3..3 + size], table, row, point, count);
     close_read_reply(buffer, unit, function, size)
 }
