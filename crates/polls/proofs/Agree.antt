@@ -2,7 +2,8 @@
 --     Agree             on unit, requested numbers, the live table, every file's n and pointer, and its records 1 to n
 --     asked-same        they are asked the same
 --     replies-same, requested-same    the reply, and what is left requested
-use mathlib.Core.Path.{◌≡◌, refl, ap, ap₂, ◌∙◌}
+--     laid_agrees, answers_laid, laid_lends    the view of files that are laid out agrees with that of their layout, and has what a poll is lent
+use mathlib.Core.Path.{◌≡◌, refl, ap, ap₂, ◌∙◌, subst}
 use mathlib.Core.List.{List, []}
 use mathlib.Core.Bool.{Bool, true, false, cond, not, ◌&&◌, ◌||◌}
 use Prim.Native.Nat.{ℕ, ◌-◌, ◌/◌, ◌%◌, ◌≤◌, ◌<◌}
@@ -15,15 +16,21 @@ use Rattle.modbus.specs.declared.frame.Function.TheVariants.{ReadFlags, Read, Wr
 use Rattle.modbus.specs.declared.frame.Exception.{Exception}
 use Rattle.modbus.specs.Frame.{unit_of, function_of, address_of, quantity_of, function_by, code_of, read_reply, read_reply_by, exception_reply}
 use Rattle.records.specs.Capture.{captured_points}
-use Rattle.archive.specs.Layout.{all_files}
+use Rattle.archive.specs.Layout.{Layout, all_files, good_files, layout_size}
 use Rattle.std.specs.Prelude.{Result, Ok, Err}
 use Rattle.polls.specs.declared.request.Part.TheVariants.{Whole, Stamp}
 use Rattle.polls.specs.declared.request.Asked.{Asked}
 use Rattle.polls.specs.declared.request.Asked.TheVariants.{Record, Registers, LivePoints, SetRequested}
-use Rattle.polls.specs.View.{View}
+use Rattle.polls.specs.View.{View, archive_view, view_of}
+use Rattle.polls.specs.declared.view.View as code
+use Rattle.archive.specs.Ring.{record_in}
+use Rattle.archive.specs.Lent.{LaidOut}
+use Rattle.archive.specs.declared.layout.File.{File}
+use Rattle.archive.proofs.Layouts.{size-within, file-inside}
+use Rattle.modbus.specs.Frame.{Sent}
 use Rattle.polls.specs.Addresses.{on_file, file_at, all_registers, first_register, on_register, on_requested, record_asked, number_asked, read_asked, write_asked}
-use Rattle.polls.specs.Frames.{is_heard, asked_as, asked_by, asked, register, part_of, reply_of, requested_by, asked_of, reply_to, requested_after}
-use Rattle.polls.specs.Lent.{Passed}
+use Rattle.polls.specs.Frames.{is_heard, asked_as, asked_by, asked, register, part_of, reply_of, requested_by, asked_of, reply_to, requested_after, Answers}
+use Rattle.polls.specs.Lent.{least_buffer, Passed, LentPoll}
 use Rattle.polls.proofs.Laws.{on_file_lem, on-registers, registers-by, asked-passed}
 
 pub record Agree (v w : View) : Type 0 where
@@ -110,3 +117,39 @@ module _ (v w : View) (agree : Agree v w) where
     where
       left : ℕ → List ℕ → List ℕ → List ℕ
       left unit new old = cond (is_heard frame && (eqb (unit_of frame) unit || eqb (unit_of frame) 0)) new old
+
+-- ---- files that are laid out
+-- the code's view of them agrees with the view of their layout
+pub laid_agrees : (v : code.View) (l : Layout) → LaidOut l v.files.now →
+    Agree (view_of v) (archive_view v.unit l v.pointers.now v.requested.now v.archive.now v.table.now)
+laid_agrees v l laid =
+    record {
+      unit = refl;
+      limit = λ f below. ap (λ x. x.limit) (laid.each f below);
+      pointer = λ f below. refl;
+      requested = refl;
+      reads = λ f below k first last. ap (λ x. record_in v.archive.now x.from x.size k) (laid.each f below);
+      table = refl;
+    }
+
+pub answers_laid : (v : code.View) (l : Layout) (frame buffer : List ℕ) (told : ℕ) (buffer' requested' : List ℕ) → LaidOut l v.files.now →
+    Answers (view_of v) frame buffer told buffer' requested' →
+    Answers (archive_view v.unit l v.pointers.now v.requested.now v.archive.now v.table.now) frame buffer told buffer' requested'
+answers_laid v l frame buffer told buffer' requested' laid answers =
+    let agree = laid_agrees v l laid in
+    let w = archive_view v.unit l v.pointers.now v.requested.now v.archive.now v.table.now in
+    record {
+      sent = subst (λ r. Sent r buffer told buffer') (replies-same (view_of v) w agree frame) answers.sent;
+      asks = answers.asks ∙ requested-same (view_of v) w agree frame;
+    }
+
+-- and a poll is lent them, where they fit archive memory
+pub laid_lends : (l : Layout) (files : List File) (m buffer : List ℕ) → good_files l.groups ≡ true → LaidOut l files → layout_size l ≤ length m →
+    least_buffer ≤ length buffer → LentPoll files m buffer
+laid_lends l files m buffer good laid room buffered =
+    record {
+      fits = λ f below. rw (laid.each f below) (omega (arith, file-inside l f below, room));
+      stamped = λ f below. rw (laid.each f below) (size-within l f good).0;
+      short = λ f below. rw (laid.each f below) (size-within l f good).1;
+      buffered = buffered;
+    }

@@ -3,7 +3,7 @@
 --     asked-passed            what is asked has passed its checks
 --     length-registers, registers-by, registers-put    the bytes of registers: how many, by each, and one more in a reply buffer
 --     live-captured           the bytes of live points are those of a captured group
---     record-lent, sets-file  what a poll that is lent its parts lends its steps
+--     record_lent, sets-file  what a poll that is lent its parts lends its steps
 --     sent-within, part-sent  the part of a record that is sent: its size, and its bytes
 --     no-reply, replied, unasked, asked-for    a frame that is not answered, or is; that leaves what is requested, or sets it
 --     heard-long              the length of a frame that is heard
@@ -14,7 +14,7 @@ use mathlib.Core.Bool.{true, false, not, ◌&&◌, ◌||◌}
 use Prim.Native.Nat.{ℕ, zero, suc, ◌+◌, ◌-◌, ◌*◌, ◌/◌, ◌%◌, ◌≤◌, ◌<◌}
 use native.Mathlib.Numerals.{add-one}
 use native.Mathlib.Omega.{arith}
-use Rattle.std.specs.Prelude.{Result, Ok, Err}
+use Rattle.std.specs.Prelude.{Option, Some, None, Result, Ok, Err}
 use borrow.Author.Tests.{leb-true, ltb-false, eqb-false, not-false}
 use lib.Dec.{eqb, ltb}
 use lib.ListN.{length, get_or, take, length-append}
@@ -30,22 +30,20 @@ use Rattle.modbus.specs.declared.frame.Function.TheVariants.{ReadFlags, Read, Wr
 use Rattle.modbus.specs.declared.frame.Exception.{Exception}
 use Rattle.modbus.specs.Frame.{Sent, unit_of, function_of, address_of, quantity_of, number_of, function_by}
 use Rattle.points.specs.declared.table.Row.{Row}
-use Rattle.points.specs.declared.table.Found.{Found}
-use Rattle.points.specs.declared.table.Found.TheVariants.{In, Nowhere}
 use Rattle.points.specs.Table.{row_of, points_size}
 use Rattle.points.specs.Groups.{ends_in_row, group_of}
 use Rattle.points.proofs.Laws.{group-of-run}
 use Rattle.records.specs.Capture.{captured_points, captured_group}
-use Rattle.archive.specs.Layout.{layout_from, all_files, limit_of, size_of, layout_size, has_room}
-use Rattle.archive.specs.Lent.{file_of}
-use Rattle.archive.proofs.Layouts.{size-within, file-inside}
+use Rattle.archive.specs.declared.layout.File.{File}
+use Rattle.archive.specs.Layout.{all_files}
+use Rattle.archive.specs.Lent.{file_in}
 use Rattle.archive.proofs.Scans.{set-within}
 use Rattle.polls.specs.declared.request.Asked.{Asked}
 use Rattle.polls.specs.declared.request.Asked.TheVariants.{Record, Registers, LivePoints, SetRequested}
 use Rattle.polls.specs.declared.request.Part.{Part}
 use Rattle.polls.specs.declared.request.Part.TheVariants.{Whole, Stamp}
 use Rattle.polls.specs.Addresses.{on_file, file_at, all_registers, first_register, on_register, on_requested, most_data, function_for, record_asked, registers_asked, points_asked, number_asked, live_asked, read_asked, write_asked}
-use Rattle.polls.specs.View.{View}
+use Rattle.polls.specs.View.{View, limit_in}
 use Rattle.polls.specs.Frames.{is_heard, asked_as, asked_by, asked, register, register_bytes, part_of, reply_of, requested_by, asked_of, is_ours, reply_to, requested_after}
 use Rattle.polls.specs.Lent.{least_buffer, LentRecord, LentPoll, Numbered, PointRun, Passed, SetsFile, sent_size}
 
@@ -77,7 +75,7 @@ module _ (limit : ℕ → ℕ) where
       (λ _. by_cond Fine (ltb all_registers (i + q)) _ _ (λ _. tt) (λ past. ltb-false _ _ past))
 
   -- points from p on, of p's row
-  points-passed : (r : Row) (p q : ℕ) → row_of p ≡ In r → Passed limit (points_asked r p q)
+  points-passed : (r : Row) (p q : ℕ) → row_of p ≡ Some r → Passed limit (points_asked r p q)
   unfolding points_asked
   points-passed r p q row =
       by_cond Fine (eqb q 0 || ltb most_data (points_size r q)) _ _ (λ _. tt)
@@ -88,9 +86,9 @@ module _ (limit : ℕ → ℕ) where
         short = ltb-false most_data (points_size r q) (or_right (eqb q 0) (ltb most_data (points_size r q)) few);
       }))
 
-  live-passed : (function : Function) (found : Found) (p q : ℕ) → row_of p ≡ found → Passed limit (live_asked function found p q)
-  live-passed function Nowhere p q looked = tt
-  live-passed function (In r) p q looked = by_cond Fine (eqb (number_of function) (number_of (function_for r))) _ _ (λ _. points-passed r p q looked) (λ _. tt)
+  live-passed : (function : Function) (found : Option Row) (p q : ℕ) → row_of p ≡ found → Passed limit (live_asked function found p q)
+  live-passed function None p q looked = tt
+  live-passed function (Some r) p q looked = by_cond Fine (eqb (number_of function) (number_of (function_for r))) _ _ (λ _. points-passed r p q looked) (λ _. tt)
 
   read-passed : (requested : List ℕ) (a q : ℕ) → Passed limit (read_asked limit requested a q)
   unfolding read_asked
@@ -154,21 +152,25 @@ registers-put v b b' b'' first i w fits before is put =
 pub live-captured : (table : List ℕ) (r : Row) (p q : ℕ) → PointRun r p q → captured_points table r p q ≡ captured_group table (group_of p q) p q
 live-captured table r p q run = rw run.grouped refl
 
+-- ---- the part of a record that is sent, where a record has a stamp
+pub sent-within : (part : Part) (size : ℕ) → 6 ≤ size → sent_size part size ≤ size
+sent-within Whole size stamped = omega arith
+sent-within Stamp size stamped = stamped
+
+pub part-sent : (part : Part) (size : ℕ) (bytes : List ℕ) → 6 ≤ size → take (sent_size part size) bytes ≡ part_of part (take size bytes)
+part-sent Whole size bytes stamped = refl
+part-sent Stamp size bytes stamped = sym (take-take 6 size bytes stamped)
+
 -- ---- what a poll lends its steps
-pub record-lent : (groups limits sizes : List ℕ) (depth : ℕ) (pointers requested m table buffer : List ℕ) (f k size : ℕ) →
-    let l = layout_from groups limits depth in
-    LentPoll groups limits sizes depth pointers requested m table buffer → Numbered (limit_of l) f k → size ≤ size_of l f →
-    LentRecord (file_of l f) k size m buffer
-unfolding has_room
-record-lent groups limits sizes depth pointers requested m table buffer f k size lent number part =
-    let l = layout_from groups limits depth in
-    let room : layout_size l ≤ length m = leb-true _ _ lent.room in
+pub record_lent : (files : List File) (m buffer : List ℕ) (f k : ℕ) (part : Part) → LentPoll files m buffer → Numbered (limit_in files) f k →
+    LentRecord (file_in files f) k (sent_size part (file_in files f).size) m buffer
+record_lent files m buffer f k part lent number =
     record {
-      ring = record { some = omega (arith, number.first, number.last); fits = omega (arith, file-inside l f number.file, room) };
+      ring = record { some = omega (arith, number.first, number.last); fits = lent.fits f number.file };
       first = number.first;
       last = number.last;
-      part = part;
-      short = (size-within l f lent.layout.good).1;
+      part = sent-within part _ (lent.stamped f number.file);
+      short = lent.short f number.file;
       buffered = lent.buffered;
     }
 
@@ -178,15 +180,6 @@ sets-file limit (Ok (Record f k part)) passed = tt
 sets-file limit (Ok (Registers i q)) passed = tt
 sets-file limit (Ok (LivePoints r p q)) passed = tt
 sets-file limit (Ok (SetRequested f x)) passed = passed.file
-
--- ---- the part of a record that is sent, where a record has a stamp
-pub sent-within : (part : Part) (size : ℕ) → 6 ≤ size → sent_size part size ≤ size
-sent-within Whole size stamped = omega arith
-sent-within Stamp size stamped = stamped
-
-pub part-sent : (part : Part) (size : ℕ) (bytes : List ℕ) → 6 ≤ size → take (sent_size part size) bytes ≡ part_of part (take size bytes)
-part-sent Whole size bytes stamped = refl
-part-sent Stamp size bytes stamped = sym (take-take 6 size bytes stamped)
 
 -- ---- a frame, by its unit
 module _ (v : View) (frame : List ℕ) where

@@ -1,12 +1,12 @@
 // What a request asks for: the checks in their order, and the address table row by row.
-ghost use Rattle.std.specs.Prelude.{◌≡◌, List, ℕ, ◌≤◌, length};
+ghost use Rattle.std.specs.Prelude.{◌≡◌, ◌≤◌, length};
 ghost use Rattle.points.specs.Table.{row_of};
-ghost use Rattle.archive.specs.Layout.{layout_from, limit_of};
 ghost use Rattle.polls.specs.Addresses.{on_requested, function_for, number_in, record_asked, registers_asked, points_asked, live_asked, read_asked, write_asked};
+ghost use Rattle.polls.specs.View.{limit_in};
 ghost use Rattle.polls.specs.Frames.{asked};
 ghost use Rattle.polls.specs.Lent.{sent_size};
 
-use archive::layout::file_limit;
+use archive::layout::{FILES, File};
 use modbus::frame::{Exception, Function};
 use modbus::word::word_at;
 use points::Row;
@@ -147,40 +147,27 @@ fn ask_live(function: Function, address: u16, quantity: u16) -> Result<Asked, Ex
 fn ask_read(
     address: u16,
     quantity: u16,
-    limits: &[u16],
-    depth: u16,
-    requested: &[u16],
+    files: &[File; FILES],
+    requested: &[u16; FILES],
 ) -> Result<Asked, Exception>
-    requires { (length limits.now ≡ 10) × (length requested.now ≡ 11) }
-    ensures { (groups : List ℕ) →
-        result ≡ read_asked (limit_of (layout_from groups limits.now depth)) requested.now address quantity }
+    ensures { result ≡ read_asked (limit_in files.now) requested.now address quantity }
 {
     match address {
         701..=711 => {
-            let file = usize::from(address - 701);
-            ask_record(
-                file_limit(limits, depth, file),
-                file,
-                requested[file],
-                Part::Whole,
-            )
+            let f = usize::from(address - 701);
+            ask_record(files[f].limit, f, requested[f], Part::Whole)
         }
         721..=731 => {
-            let file = usize::from(address - 721);
-            ask_record(file_limit(limits, depth, file), file, quantity, Part::Whole)
+            let f = usize::from(address - 721);
+            ask_record(files[f].limit, f, quantity, Part::Whole)
         }
         751..=761 => {
-            let file = usize::from(address - 751);
-            ask_record(
-                file_limit(limits, depth, file),
-                file,
-                requested[file],
-                Part::Stamp,
-            )
+            let f = usize::from(address - 751);
+            ask_record(files[f].limit, f, requested[f], Part::Stamp)
         }
         771..=781 => {
-            let file = usize::from(address - 771);
-            ask_record(file_limit(limits, depth, file), file, quantity, Part::Stamp)
+            let f = usize::from(address - 771);
+            ask_record(files[f].limit, f, quantity, Part::Stamp)
         }
         FIRST_REGISTER..=LAST_REGISTER => ask_registers(address - FIRST_REGISTER, quantity),
         _ => ask_live(Function::Read, address, quantity),
@@ -199,25 +186,26 @@ fn is_on_requested(address: u16) -> bool
 
 // Function 06.
 #[tactic(auto, unfolding(crate::specs::Addresses::write_asked, crate::specs::Addresses::number_asked))]
-fn ask_write(address: u16, value: u16, limits: &[u16], depth: u16) -> Result<Asked, Exception>
-    requires { length limits.now ≡ 10 }
-    ensures { (groups : List ℕ) →
-        result ≡ write_asked (limit_of (layout_from groups limits.now depth)) address value }
+fn ask_write(address: u16, value: u16, files: &[File; FILES]) -> Result<Asked, Exception>
+    ensures { result ≡ write_asked (limit_in files.now) address value }
 {
     if !is_on_requested(address) {
         return Err(Exception::IllegalAddress);
     }
     let file = usize::from((address - FIRST_REGISTER) / 3);
-    let number = number_in(file_limit(limits, depth, file), value)?;
+    let number = number_in(files[file].limit, value)?;
     Ok(Asked::SetRequested { file, number })
 }
 
 // What a frame that was heard asks for.
 #[tactic(auto, unfolding(crate::specs::Frames::asked))]
-pub fn ask(frame: &[u8], limits: &[u16], depth: u16, requested: &[u16]) -> Result<Asked, Exception>
-    requires { (4 ≤ length frame.now) × (length limits.now ≡ 10) × (length requested.now ≡ 11) }
-    ensures { (groups : List ℕ) →
-        result ≡ asked (limit_of (layout_from groups limits.now depth)) requested.now frame.now }
+pub fn ask(
+    frame: &[u8],
+    files: &[File; FILES],
+    requested: &[u16; FILES],
+) -> Result<Asked, Exception>
+    requires { 4 ≤ length frame.now }
+    ensures { result ≡ asked (limit_in files.now) requested.now frame.now }
 {
     let function = Function::try_from(frame[1])?;
     if frame.len() != 8 {
@@ -227,7 +215,7 @@ pub fn ask(frame: &[u8], limits: &[u16], depth: u16, requested: &[u16]) -> Resul
     let quantity = word_at(frame, 4);
     match function {
         Function::ReadFlags => ask_live(function, address, quantity),
-        Function::Read => ask_read(address, quantity, limits, depth, requested),
-        Function::Write => ask_write(address, quantity, limits, depth),
+        Function::Read => ask_read(address, quantity, files, requested),
+        Function::Write => ask_write(address, quantity, files),
     }
 }
