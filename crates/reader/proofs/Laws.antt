@@ -2,7 +2,7 @@
 --     place_inside, named-is    a place's points end within the record, and its group
 --     two_bytes, four_bytes    numbers from bytes
 --     value_of_lem, flag-of    a point's value in a stretch, by kind
---     lent-place, lent-flag, lent-bytes, flag-value, own-value, text-value    what a stretch holds of a point of it
+--     stretch_laws     what a stretch holds of a point, and the point's value, by kind
 use mathlib.Core.Path.{◌≡◌, refl, sym, ap, ap₂, ◌∙◌}
 use mathlib.Core.List.{List, [], ◌∷◌}
 use mathlib.Core.Bool.{true}
@@ -18,13 +18,13 @@ use Rattle.basics.proofs.Tests.{eq-or-not}
 use Rattle.basics.proofs.Lists.{length_part, part-tabulate}
 use Rattle.modbus.specs.Word.{number_of, word_at}
 use Rattle.points.specs.declared.table.Kind.{Kind}
-use Rattle.points.specs.declared.table.Kind.TheVariants.{Boolean, Text8, Text16}
+use Rattle.points.specs.declared.table.Kind.TheVariants.{Boolean, Int16, Text8, Int32, Float, Text16}
 use Rattle.points.specs.declared.table.Row.{Row}
 use Rattle.points.specs.declared.groups.Group.TheVariants.{Points}
 use Rattle.points.specs.Table.{flag_at, packed_size, points_size}
 use Rattle.points.specs.Groups.{count_at, group_at, group_size, groups_size, record_size}
 use Rattle.points.proofs.Laws.{group-inside, kind_size, lookup-size, groups-size-next, groups-size-mono}
-use Rattle.records.specs.Value.{flag, value_of, bytes_in_stretch, value_in_stretch}
+use Rattle.records.specs.Value.{flag, int16, int32, float, signed, value_of, bytes_in_stretch, value_in_stretch}
 use Rattle.reader.specs.declared.stretch.Stretch.{Stretch}
 use Rattle.reader.specs.declared.answers.Value.TheVariants.{Text}
 use Rattle.reader.specs.Answers.{part, answered}
@@ -70,11 +70,19 @@ unfolding value_in_stretch bytes_in_stretch
 flag-of r stretch e is bits = simp (eq-eqb r.size 0 bits) (ap (λ x. value_of x (flag_at stretch 0 e ∷ [])) is)
 
 -- ---- what a stretch holds of point e, counted from 0
-module _ (s : Stretch) (e : ℕ) (lent : IsLent s) (known : e < s.count) where
-  -- the row's size is its kind's
-  lent-size : (k : Kind) → s.row.kind ≡ k → s.row.size ≡ kind_size k
-  lent-size k is = lookup-size lent.point s.row (group-inside lent.point s.count s.row lent.grouped).0 ∙ ap kind_size is
+-- the row's size is its kind's
+lent-size : (s : Stretch) (k : Kind) → IsLent s → s.row.kind ≡ k → s.row.size ≡ kind_size k
+lent-size s k lent is = lookup-size lent.point s.row (group-inside lent.point s.count s.row lent.grouped).0 ∙ ap kind_size is
 
+-- Booleans
+pub lent-flags : (s : Stretch) → IsLent s → s.row.kind ≡ Boolean → s.count ≤ 8 * length s.bytes.now
+unfolding points_size
+lent-flags s lent is =
+    let test = eq-eqb s.row.size 0 (lent-size s Boolean lent is) in
+    let packed : length s.bytes.now ≡ packed_size s.count = simp test at lent.sized in
+    omega (arith, packed)
+
+module _ (s : Stretch) (e : ℕ) (lent : IsLent s) (known : e < s.count) where
   -- a value of whole bytes
   whole-bytes : (s.row.size ≡ 0 → ⊥) → (e + 1) * s.row.size ≤ length s.bytes.now
   unfolding points_size
@@ -88,33 +96,42 @@ module _ (s : Stretch) (e : ℕ) (lent : IsLent s) (known : e < s.count) where
   lent-place = ⊎_elim (λ none. rw none (omega arith)) (λ some. omega (arith, whole-bytes some, add-mul e 1 s.row.size)) (eq-or-not s.row.size 0)
 
   -- a Boolean
-  pub lent-flag : s.row.kind ≡ Boolean → e < 8 * length s.bytes.now
-  unfolding points_size
-  lent-flag is =
-      let test = eq-eqb s.row.size 0 (lent-size Boolean is) in
-      let packed : length s.bytes.now ≡ packed_size s.count = simp test at lent.sized in
-      omega (arith, packed, known)
-
   pub flag-value : s.row.kind ≡ Boolean → value_in_stretch s.row s.bytes.now e ≡ flag (eqb (flag_at s.bytes.now 0 e) 1)
-  flag-value is = flag-of s.row s.bytes.now e is (lent-size Boolean is)
+  flag-value is = flag-of s.row s.bytes.now e is (lent-size s Boolean lent is)
 
   -- a value of another kind
   module _ (k : Kind) (is : s.row.kind ≡ k) (wide : ltb 0 (kind_size k) ≡ true) where
-    pub lent-bytes : e * s.row.size + kind_size k ≤ length s.bytes.now
+    lent-bytes : e * s.row.size + kind_size k ≤ length s.bytes.now
     lent-bytes =
-        let size = lent-size k is in
+        let size = lent-size s k lent is in
         let some : s.row.size ≡ 0 → ⊥ = λ none. omega (arith, ltb-true 0 (kind_size k) wide, size, none) in
         omega (arith, whole-bytes some, add-mul e 1 s.row.size, size)
 
-    pub own-value : value_in_stretch s.row s.bytes.now e ≡ value_of k (take (kind_size k) (drop (e * s.row.size) s.bytes.now))
-    own-value = value_of_lem s.row s.bytes.now e k is (lent-size k is) wide
+    own-value : value_in_stretch s.row s.bytes.now e ≡ value_of k (take (kind_size k) (drop (e * s.row.size) s.bytes.now))
+    own-value = value_of_lem s.row s.bytes.now e k is (lent-size s k lent is) wide
 
     own-long : length (take (kind_size k) (drop (e * s.row.size) s.bytes.now)) ≡ s.row.size
-    own-long = length_part s.bytes.now (e * s.row.size) (kind_size k) lent-bytes ∙ sym (lent-size k is)
+    own-long = length_part s.bytes.now (e * s.row.size) (kind_size k) lent-bytes ∙ sym (lent-size s k lent is)
+
+  -- a number
+  pub lent-two : s.row.kind ≡ Int16 → e * s.row.size + 2 ≤ length s.bytes.now
+  lent-two is = lent-bytes Int16 is refl
+
+  pub lent-four : (s.row.kind ≡ Int32) ⊎ (s.row.kind ≡ Float) → e * s.row.size + 4 ≤ length s.bytes.now
+  lent-four is = ⊎_elim (λ long. lent-bytes Int32 long refl) (λ single. lent-bytes Float single refl) is
+
+  pub int16-value : s.row.kind ≡ Int16 → value_in_stretch s.row s.bytes.now e ≡ int16 (signed 16 (number_of (take 2 (drop (e * s.row.size) s.bytes.now))))
+  int16-value is = own-value Int16 is refl
+
+  pub int32-value : s.row.kind ≡ Int32 → value_in_stretch s.row s.bytes.now e ≡ int32 (signed 32 (number_of (take 4 (drop (e * s.row.size) s.bytes.now))))
+  int32-value is = own-value Int32 is refl
+
+  pub float-value : s.row.kind ≡ Float → value_in_stretch s.row s.bytes.now e ≡ float (number_of (take 4 (drop (e * s.row.size) s.bytes.now)))
+  float-value is = own-value Float is refl
 
   -- a text
   pub text-value : (at : ℕ) → (s.row.kind ≡ Text8) ⊎ (s.row.kind ≡ Text16) → answered (value_in_stretch s.row s.bytes.now e) at ≡ Text (part at s.row.size)
   text-value at =
       ⊎_elim (λ is. rw (own-value Text8 is refl, own-long Text8 is refl) refl) (λ is. rw (own-value Text16 is refl, own-long Text16 is refl) refl)
 
-pub ruleset stretch_laws = (lent-place, lent-flag, flag-value)
+pub ruleset stretch_laws = (lent-flags, lent-place, lent-two, lent-four, flag-value, int16-value, int32-value, float-value, text-value)

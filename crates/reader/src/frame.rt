@@ -91,7 +91,7 @@ pub fn find_record(groups: &[u16], day_first: bool, frame: &[u8]) -> Result<Part
     let size = check(groups, day_first, frame)?;
     Ok(Part {
         place: RECORD_AT as u32,
-        length: record_of(frame, size).len() as u32,
+        length: size as u32,
     })
 }
 
