@@ -5,6 +5,4 @@ use Rattle.points.proofs.Laws.{judged-good}
 use Rattle.record_speed.proofs.run_judged.Goals as goal
 
 pub run-requires : goal.run-requires
-run-requires c =
-    let good = judged-good _ _ (sym c.in-Good.ensures) in
-    length-take-le _ _ c.if-buffer-size.false ∙ good.sized
+run-requires c = length-take-le _ _ c.if-size-buffer.true ∙ (judged-good _ _ (sym c.in-Ok.ensures)).sized
