@@ -20,8 +20,7 @@ written kind table from n text is fits =
 pub returns-then-is_text : goal.returns-then-is_text
 returns-then-is_text c =
     let is = sym c.if-is_text.true ∙ c.is_text.ensures in
-    c.clean.ensures ∙ ap cleaned c.copy_from_slice.ensures.after
-    ∙ written c.args.kind c.args.table.now c.args.from (length c.args.part.now) _ is c.requires
+    c.copy_texts.ensures ∙ written c.args.kind c.args.table.now c.args.from (length c.args.part.now) _ is c.requires
 
 pub returns-else-is_text : goal.returns-else-is_text
 returns-else-is_text c =
