@@ -1,4 +1,5 @@
-// The reading end: decodes a reply frame for site software. `reader_c` exports its calls for C, with what `answers` makes of their results.
+// The reading end: decodes a reply frame for site software. `reader_c` exports its calls for C, which `answers` tells of
+// their results.
 #![tactic(auto)]
 
 pub mod answers;
