@@ -1,30 +1,48 @@
-// What makes a state Foreign, document 01, row 2 of the service card.
-ghost use Rattle.std.specs.Prelude.{◌≡◌, true, ◌&&◌, List, ℕ, eqb, length, get_or};
-ghost use Rattle.archive.specs.Layout.{every, is_good, good_files, layout_from};
+// What makes a state Foreign: a part that is against its rule.
+ghost use Rattle.std.specs.Prelude.{◌≡◌, true, ◌&&◌, List, ℕ, length};
+ghost use Rattle.archive.specs.Layout.{is_good, good_files, layout_from, layout_of};
+ghost use Rattle.std.specs.List.{list_all};
+ghost use Rattle.points.specs.Table.{boolean_or_none};
 ghost use Rattle.archive.specs.Alarms.{good_slot, good_slots};
-ghost use Rattle.state.specs.Validity.{good_triggers, within_limits};
+ghost use Rattle.state.specs.Validity.{flags_valid, site_valid, good_triggers, settings_valid, within_limits};
 ghost use Rattle.state.specs.Lent.{JudgedFiles};
 
+use crate::firmware::is_firmware_good;
+use crate::parts::{Files, Flags, Settings, Site};
 use archive::alarms::Slot;
-use archive::layout::{Measured, good_size, layout_size, measure};
+use archive::layout::{good_size, layout_size, measure};
 use points::table::{is_boolean_or_none, is_float_or_none};
 
-// Whether each of the ten triggers is a Boolean or 0.
-fn are_triggers_good(triggers: &[u16]) -> bool
-    requires { length triggers.now ≡ 10 }
-    ensures { result ≡ good_triggers triggers.now }
-{
-    let mut i: usize = 0;
-    while i < 10 {
-        if !is_boolean_or_none(triggers[i] as u32) {
-            return false;
-        }
-        i += 1;
+impl Site {
+    // Whether unit and firmware are valid.
+    #[tactic(auto, unfolding(crate::specs::Validity::site_valid))]
+    pub fn is_valid(&self) -> bool
+        ensures { result ≡ site_valid self.now }
+    {
+        (1..=247).contains(&self.unit) & is_firmware_good(u32::from(self.firmware))
     }
-    true
+}
+
+impl Flags {
+    // Running and unlocked are not both on.
+    pub fn is_valid(&self) -> bool
+        ensures { result ≡ flags_valid self.now }
+    {
+        !(self.running & self.unlocked)
+    }
+}
+
+// Whether each of the ten triggers is a Boolean or 0.
+fn are_triggers_good(triggers: &[u16; 10]) -> bool
+    ensures { result ≡ list_all boolean_or_none triggers.now }
+{
+    triggers
+        .iter()
+        .all(|trigger| is_boolean_or_none(u32::from(*trigger)))
 }
 
 // Whether an alarm slot's three fields keep their rules, even when it is off.
+#[tactic(auto, unfolding(archive::specs::Alarms::good_slot))]
 pub fn is_slot_good(point: u32, kind: u32, transducer: u32) -> bool
     ensures { result ≡ good_slot point kind transducer }
 {
@@ -32,123 +50,90 @@ pub fn is_slot_good(point: u32, kind: u32, transducer: u32) -> bool
 }
 
 // Whether each of the 32 slots keeps its rules. Nearly always all do, so the loop has no early end.
-fn are_slots_good(slots: [Slot; 32]) -> bool
-    ensures { result ≡ good_slots slots }
+fn are_slots_good(slots: &[Slot; 32]) -> bool
+    ensures { result ≡ good_slots slots.now }
 {
     let mut good = true;
-    let mut i: usize = 0;
-    while i < 32 {
-        let slot = slots[i];
-        good = good & is_slot_good(slot.point as u32, slot.kind as u32, slot.transducer as u32);
-        i += 1;
+    for slot in slots {
+        good &= is_slot_good(
+            u32::from(slot.point),
+            u32::from(slot.kind),
+            u32::from(slot.transducer),
+        );
     }
     good
 }
 
-// Whether two definitions are the same. The loop looks at all numbers, so that it runs many at a time.
-fn are_same(a: &[u16], b: &[u16]) -> bool
-    requires { (length a.now ≡ 32) × (length b.now ≡ 32) }
-    ensures { result ≡ every 32 (λ k. eqb (get_or a.now k 0) (get_or b.now k 0)) }
-{
-    let mut equal = true;
-    let mut i: usize = 0;
-    while i < 32 {
-        equal = equal & (a[i] == b[i]);
-        i += 1;
-    }
-    equal
-}
-
 // Whether a drafted definition keeps its rules, where the laid-out one does: after a Start both are the same.
 fn is_draft_good(draft: &[u16], laid: &[u16]) -> bool
-    requires { (length draft.now ≡ 32) × (length laid.now ≡ 32) × (is_good laid.now ≡ true) }
+    requires { is_good laid.now ≡ true }
     ensures { result ≡ is_good draft.now }
 {
-    if are_same(draft, laid) {
-        return true;
-    }
-    good_size(draft) != 0
+    (draft == laid) || good_size(draft) != 0
 }
 
 // Whether all drafted definitions keep their rules, where the laid-out ones do.
-fn are_drafts_good(drafts: &[u16], laid: &[u16]) -> bool
-    requires { (length drafts.now ≡ 320) × (length laid.now ≡ 320) × (good_files laid.now ≡ true) }
+fn are_drafts_good(drafts: &[u16; 320], laid: &[u16; 320]) -> bool
+    requires { good_files laid.now ≡ true }
     ensures { result ≡ good_files drafts.now }
 {
-    let mut f: usize = 0;
-    while f < 10 {
+    for f in 0..10 {
         if !is_draft_good(&drafts[32 * f..32 * f + 32], &laid[32 * f..32 * f + 32]) {
             return false;
         }
-        f += 1;
     }
     true
 }
 
-// Whether drafts, triggers and slots, which calls set one by one, keep their rules, where the laid-out definitions do.
-pub fn are_settings_valid<'a>(
-    drafts: &'a [u16],
-    laid: &'a [u16],
-    triggers: &'a [u16],
-    slots: [Slot; 32],
-) -> bool
-    requires lengths { (length drafts.now ≡ 320) × (length laid.now ≡ 320)
-        × (length triggers.now ≡ 10) }
-    requires laid_good { good_files laid.now ≡ true }
-    ensures { result ≡ good_files drafts.now && (good_triggers triggers.now && good_slots slots) }
-{
-    if !are_drafts_good(drafts, laid) {
-        return false;
+impl Settings {
+    // Whether drafts, triggers and slots, which calls set one by one, keep their rules, where the laid-out definitions do.
+    #[tactic(auto, using(crate::proofs::Every::triggers_good), unfolding(crate::specs::Validity::settings_valid))]
+    pub fn is_valid(&self, laid: &[u16; 320]) -> bool
+        requires { good_files laid.now ≡ true }
+        ensures { result ≡ settings_valid self.now }
+    {
+        are_drafts_good(&self.draft.groups, laid)
+            && are_triggers_good(&self.triggers)
+            && are_slots_good(&self.slots)
     }
-    if !are_triggers_good(triggers) {
-        return false;
-    }
-    are_slots_good(slots)
 }
 
 // Whether no number of files 1 to 10 is over its file's n, nor the alarm file's over its depth.
-fn are_within(numbers: &[u16], limits: &[u16], depth: u16) -> bool
-    requires { (length numbers.now ≡ 11) × (length limits.now ≡ 10) }
+fn are_within(numbers: &[u16; 11], limits: &[u16; 10], depth: u16) -> bool
     ensures { (groups : List ℕ) →
         result ≡ within_limits numbers.now (layout_from groups limits.now depth) }
 {
-    let mut i: usize = 0;
-    while i < 10 {
-        if limits[i] < numbers[i] {
+    for (f, limit) in limits.iter().enumerate() {
+        if *limit < numbers[f] {
             return false;
         }
-        i += 1;
     }
     numbers[10] <= depth
 }
 
-// Judges and measures laid-out definitions, and judges whether the layout fits the archive and no number is over its n.
-pub fn judge_files<'a>(
-    groups: &'a [u16],
-    limits: &'a [u16],
-    depth: u16,
-    size: usize,
-    pointers: &'a [u16],
-    requested: &'a [u16],
-) -> Measured
-    requires { (length groups.now ≡ 320) × (length limits.now ≡ 10) × (length pointers.now ≡ 11)
-        × (length requested.now ≡ 11) }
-    ensures { JudgedFiles (layout_from groups.now limits.now depth)
-        size pointers.now requested.now result }
-{
-    let measured = measure(groups);
-    let sizes = measured.sizes;
-    if !measured.good {
-        return Measured { good: false, sizes };
-    }
-    if size < layout_size(groups, limits, &sizes, depth) {
-        return Measured { good: false, sizes };
-    }
-    if !are_within(pointers, limits, depth) {
-        return Measured { good: false, sizes };
-    }
-    Measured {
-        good: are_within(requested, limits, depth),
-        sizes,
+impl Files {
+    // Judges and measures laid-out files: the bytes of a record of each, where their definitions are good, the layout fits the archive,
+    // and no pointer or requested number is over its n.
+    #[tactic(auto, unfolding(crate::specs::Validity::files_valid, archive::specs::Layout::has_room))]
+    pub fn measure(&self, requested: &[u16; 11], depth: u16, size: usize) -> Option<[usize; 10]>
+        ensures { JudgedFiles (layout_of self.now.layout depth)
+            size self.now.pointers requested.now result }
+    {
+        let layout = &self.layout;
+        let measured = measure(&layout.groups);
+        let sizes = measured.sizes;
+        if !measured.good {
+            return None;
+        }
+        if size < layout_size(&layout.groups, &layout.limits, &sizes, depth) {
+            return None;
+        }
+        if !are_within(&self.pointers, &layout.limits, depth) {
+            return None;
+        }
+        if !are_within(requested, &layout.limits, depth) {
+            return None;
+        }
+        Some(sizes)
     }
 }

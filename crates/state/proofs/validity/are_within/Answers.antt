@@ -10,37 +10,35 @@ use Rattle.archive.specs.Layout.{layout_from, limit_of}
 use Rattle.state.specs.Validity.{within_limits}
 use Rattle.state.proofs.validity.are_within.Goals as goal
 
-pub loop-i-init : goal.loop-i-init
-loop-i-init c = (omega arith, λ groups. every-none _)
+pub loop-f-init : goal.loop-f-init
+loop-f-init c = λ groups. every-none _
 
-pub returns-then-limits-i : goal.returns-then-limits-i
+pub returns-then-limit-numbers : goal.returns-then-limit-numbers
 unfolding within_limits
-returns-then-limits-i c =
+returns-then-limit-numbers c =
     let a = c.args in
-    let i = c.loop-i.i in
+    let f = c.loop-f.f in
     λ groups.
     let l = layout_from groups a.limits.now a.depth in
-    sym (every-fails (λ k. leb (get_or a.numbers.now k 0) (limit_of l k)) 11 i (omega arith)
-    (rw (limit-file l i c.loop-i-test.true) (lt-leb _ _ c.if-limits-i.true)))
+    sym (every-fails (λ k. leb (get_or a.numbers.now k 0) (limit_of l k)) 11 f (omega arith)
+    (rw (limit-file l f (omega arith)) (lt-leb _ _ c.if-limit-numbers.true)))
 
-pub loop-i-preserved : goal.loop-i-preserved
-loop-i-preserved c =
+pub loop-f-preserved : goal.loop-f-preserved
+loop-f-preserved c =
     let a = c.args in
-    let at = c.loop-i in (
-      omega arith,
-      λ groups.
-          let l = layout_from groups a.limits.now a.depth in
-          every-next (λ k. leb (get_or a.numbers.now k 0) (limit_of l k)) at.i (at.invariant.1 groups)
-          (rw (limit-file l at.i c.loop-i-test.true) (le-leb _ _ c.if-limits-i.false)),
-    )
+    let at = c.loop-f in
+    λ groups.
+    let l = layout_from groups a.limits.now a.depth in
+    every-next (λ k. leb (get_or a.numbers.now k 0) (limit_of l k)) at.f (at.invariant groups)
+    (rw (limit-file l at.f (omega arith)) (le-leb _ _ c.if-limit-numbers.false))
 
 pub returns : goal.returns
 unfolding within_limits every limit_of
 returns c =
     let a = c.args in
-    let at = c.loop-i in
-    let all : at.i ≡ 10 = omega arith in
+    let at = c.loop-f in
+    let all : at.f ≡ 10 = omega arith in
     λ groups.
     let l = layout_from groups a.limits.now a.depth in
-    let first : every 10 (λ k. leb (get_or a.numbers.now k 0) (limit_of l k)) ≡ true = rw all at (at.invariant.1 groups) in
+    let first : every 10 (λ k. leb (get_or a.numbers.now k 0) (limit_of l k)) ≡ true = rw all at (at.invariant groups) in
     simp first
