@@ -7,11 +7,11 @@ use Rattle.basics.specs.declared.card.Refusal.{Refusal}
 use Rattle.basics.specs.declared.card.Refusal.TheVariants.{Memory, Foreign, Table, Clock, File, Locked, Group, Long, Trigger, Running, Room, Alarm, Reply, Garbled, Empty, Beyond}
 use Rattle.basics.specs.Card.{Card, card, card_of, done_card}
 use mathlib.Core.Path.{◌≡◌, refl, sym, ap, ◌∙◌}
-use Prim.Native.Nat.{ℕ, suc, ◌≤◌}
+use Prim.Native.Nat.{ℕ, ◌≤◌}
 use mathlib.Core.Bool.{Bool, true, false, cond, not, ◌&&◌}
 use native.Mathlib.Omega.{arith}
 use borrow.Author.Tests.{ne_eqb, leb-true}
-use lib.Dec.{leb, eqb, eqb-suc-zero}
+use lib.Dec.{leb, eqb}
 use mathlib.Core.Logic.{⊎_elim}
 use Rattle.points.specs.Table.{boolean_or_none, float_or_none}
 use Rattle.points.proofs.Laws.{boolean-inside, float-inside}

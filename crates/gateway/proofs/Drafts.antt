@@ -2,17 +2,17 @@
 --     written-here, written-elsewhere    the definition of a file after it
 --     drafts-stay-good                   good drafts stay good when a good definition is written
 --     drafts_good                        a valid state's drafts are good
-use mathlib.Core.Path.{◌≡◌, sym, ap, ap₂, ◌∙◌}
+use mathlib.Core.Path.{◌≡◌, sym, ap, ◌∙◌}
 use mathlib.Core.List.{List}
 use mathlib.Core.Logic.{⊎_elim}
-use mathlib.Core.Bool.{Bool, true}
+use mathlib.Core.Bool.{true}
 use Prim.Native.Nat.{ℕ, ◌*◌, ◌≤◌, ◌<◌}
 use native.Mathlib.Omega.{arith}
 use lib.ListN.{length, take, drop, length-take, length-drop}
 use Rattle.basics.specs.Lists.{pasted}
 use Rattle.basics.proofs.Lists.{part-before, part-behind, part-here}
 use Rattle.basics.proofs.Tests.{eq-or-not, lt-or-le}
-use Rattle.archive.specs.Layout.{definition, is_good, good_files, layout_of, has_room}
+use Rattle.archive.specs.Layout.{definition, is_good, good_files}
 use Rattle.archive.proofs.Layouts.{every-at, every-all, good-definition, good-file}
 use Rattle.state.specs.declared.parts.State.{State}
 use Rattle.state.specs.Validity.{valid}

@@ -5,13 +5,13 @@
 --     poll-refuses, poll-done    what a refused poll leaves, and one that is done
 --     poll-short        its reply's length fits
 --     poll-valid        it leaves a valid state valid
-use mathlib.Core.Path.{◌≡◌, refl, ap, ◌∙◌, subst}
+use mathlib.Core.Path.{◌≡◌, refl, ap, ◌∙◌}
 use mathlib.Core.List.{List}
-use mathlib.Core.Bool.{Bool, true, false, cond, not}
+use mathlib.Core.Bool.{true, false}
 use Prim.Native.Nat.{ℕ, ◌<◌, ◌≤◌}
 use native.Mathlib.Omega.{arith}
 use borrow.Author.Tests.{eq-eqb, ne_eqb, lt-ltb, le-ltb}
-use lib.Dec.{eqb, ltb}
+use lib.Dec.{eqb}
 use lib.ListN.{length}
 use Rattle.basics.specs.declared.card.Refusal.{Refusal}
 use Rattle.basics.specs.declared.card.Refusal.TheVariants.{Table, Reply}
@@ -20,7 +20,7 @@ use Rattle.basics.proofs.Tests.{by_cond}
 use Rattle.points.specs.Table.{table_bytes}
 use Rattle.archive.specs.Layout.{layout_of, defined_files, all_files}
 use Rattle.polls.specs.View.{archive_view}
-use Rattle.polls.specs.Frames.{reply_to, Answers}
+use Rattle.polls.specs.Frames.{Answers}
 use Rattle.polls.specs.Lent.{least_buffer, LentPoll}
 use Rattle.polls.proofs.Laws.{requested-within}
 use Rattle.polls.proofs.Lengths.{reply-short}
