@@ -1,26 +1,24 @@
 -- What the functions of this crate answer beside a number.
 use Rattle.std.specs.Prelude.{◌≡◌, List, Option, true, false, ℕ, MatchOption}
+use Rattle.archive.specs.declared.layout.File.{File}
 use Rattle.archive.specs.Layout.{Layout}
-use Rattle.archive.specs.Lent.{SizesOf}
-use Rattle.state.specs.declared.check.Laid.{Laid}
+use Rattle.archive.specs.Lent.{LaidOut}
 use Rattle.state.specs.declared.parts.State.{State}
-use Rattle.state.specs.State.{depth_of}
+use Rattle.state.specs.State.{laid_out}
 use Rattle.state.specs.Validity.{files_valid, valid}
 
--- files that are valid, with the bytes of a record of each
-pub record MeasuredFiles (l : Layout) (size : ℕ) (pointers requested sizes : List ℕ) : Type 0 where
+-- files that are valid, and where they lie
+pub record ValidFiles (l : Layout) (size : ℕ) (pointers requested : List ℕ) (files : List File) : Type 0 where
   pub valid : files_valid l size pointers requested ≡ true
-  pub sized : SizesOf l.groups sizes
+  pub laid : LaidOut l files
 
--- files judged: measured where they are valid
-abbrev pub JudgedFiles : Layout → ℕ → List ℕ → List ℕ → Option (List ℕ) → Type 0
+-- files judged: where they lie if they are valid
+abbrev pub JudgedFiles : Layout → ℕ → List ℕ → List ℕ → Option (List File) → Type 0
 JudgedFiles l size pointers requested r =
-    MatchOption r (files_valid l size pointers requested ≡ false) (MeasuredFiles l size pointers requested)
+    MatchOption r (files_valid l size pointers requested ≡ false) (ValidFiles l size pointers requested)
 
--- a state that is taken with an archive of this length, and what it has laid out: the bytes of a record of each file, and the depth of the
--- alarm file
-pub record IsLaidOut (s : State) (size : ℕ) (r : Laid) : Type 0 where
+-- a state that is taken with an archive of this length, and where its files lie
+pub record IsTaken (s : State) (size : ℕ) (files : List File) : Type 0 where
   pub same : size ≡ s.site.archive_length
   pub sound : valid s ≡ true
-  pub sized : SizesOf s.files.layout.groups r.sizes
-  pub deep : r.depth ≡ depth_of s.site
+  pub laid : LaidOut (laid_out s) files

@@ -34,7 +34,7 @@ pub struct Seen {
 
 // The pointers are those of files 1 to 11; the alarm file's is the last.
 #[repr(C)]
-#[derive(Clone, Copy)]
+#[derive(Clone, Copy, Debug, PartialEq, Eq)]
 pub struct Files {
     pub layout: Definitions,
     pub pointers: [u16; 11],
@@ -48,7 +48,7 @@ pub struct Line {
 }
 
 #[repr(C)]
-#[derive(Clone, Copy)]
+#[derive(Clone, Copy, Debug, PartialEq, Eq)]
 pub struct Settings {
     pub draft: Definitions,
     pub triggers: [u16; 10],
@@ -57,7 +57,7 @@ pub struct Settings {
 
 // The settings come last: what stands behind 32 slots is hard to find for the prover.
 #[repr(C)]
-#[derive(Clone, Copy)]
+#[derive(Clone, Copy, Debug, PartialEq, Eq)]
 pub struct State {
     pub site: Site,
     pub flags: Flags,

@@ -1,16 +1,19 @@
 // What makes a state Foreign: a part that is against its rule.
-ghost use Rattle.std.specs.Prelude.{◌≡◌, true, ◌&&◌, List, ℕ, length};
-ghost use Rattle.archive.specs.Layout.{is_good, good_files, layout_from, layout_of};
+ghost use Rattle.std.specs.Prelude.{◌≡◌, true, eqb, get_or};
 ghost use Rattle.std.specs.List.{list_all};
 ghost use Rattle.points.specs.Table.{boolean_or_none};
 ghost use Rattle.archive.specs.Alarms.{good_slot, good_slots};
-ghost use Rattle.state.specs.Validity.{flags_valid, site_valid, good_triggers, settings_valid, within_limits};
+ghost use Rattle.archive.specs.Layout.{Layout, every, is_good, good_files, layout_of};
+ghost use Rattle.archive.specs.Lent.{LaidOut};
+ghost use Rattle.state.specs.State.{depth_of};
+ghost use Rattle.state.specs.Validity.{flags_valid, site_valid, settings_valid, within_limits};
 ghost use Rattle.state.specs.Lent.{JudgedFiles};
 
-use crate::firmware::is_firmware_good;
+use crate::firmware::{alarm_depth, is_firmware_good};
 use crate::parts::{Files, Flags, Settings, Site};
 use archive::alarms::Slot;
-use archive::layout::{good_size, layout_size, measure};
+use archive::layout::{ALARM_FILE, Definitions, FILES, File, end_of};
+use points::groups::{Judged, judge};
 use points::table::{is_boolean_or_none, is_float_or_none};
 
 impl Site {
@@ -20,6 +23,13 @@ impl Site {
         ensures { result ≡ site_valid self.now }
     {
         (1..=247).contains(&self.unit) & is_firmware_good(u32::from(self.firmware))
+    }
+
+    // The most records of the site's alarm file.
+    pub fn alarm_depth(&self) -> u16
+        ensures { result ≡ depth_of self.now }
+    {
+        alarm_depth(u32::from(self.firmware))
     }
 }
 
@@ -64,21 +74,45 @@ fn are_slots_good(slots: &[Slot; 32]) -> bool
     good
 }
 
+// Whether 32 numbers keep the rules of a definition.
+#[tactic(auto, unfolding(archive::specs::Layout::is_good))]
+fn is_definition_good(groups: &[u16; 32]) -> bool
+    ensures { result ≡ is_good groups.now }
+{
+    match judge(groups) {
+        Judged::Good(_) => true,
+        Judged::BadGroup(_) => false,
+        Judged::Long => false,
+    }
+}
+
+// Whether two definitions are the same. The loop looks at all numbers, so that it runs many at a time: `==` ends at the first that
+// differs, and each call takes a tenth longer with it.
+fn are_same(a: &[u16; 32], b: &[u16; 32]) -> bool
+    ensures { result ≡ every 32 (λ k. eqb (get_or a.now k 0) (get_or b.now k 0)) }
+{
+    let mut same = true;
+    for (k, number) in a.iter().enumerate() {
+        same &= *number == b[k];
+    }
+    same
+}
+
 // Whether a drafted definition keeps its rules, where the laid-out one does: after a Start both are the same.
-fn is_draft_good(draft: &[u16], laid: &[u16]) -> bool
+fn is_draft_good(draft: &[u16; 32], laid: &[u16; 32]) -> bool
     requires { is_good laid.now ≡ true }
     ensures { result ≡ is_good draft.now }
 {
-    (draft == laid) || good_size(draft) != 0
+    are_same(draft, laid) || is_definition_good(draft)
 }
 
 // Whether all drafted definitions keep their rules, where the laid-out ones do.
-fn are_drafts_good(drafts: &[u16; 320], laid: &[u16; 320]) -> bool
-    requires { good_files laid.now ≡ true }
-    ensures { result ≡ good_files drafts.now }
+fn are_drafts_good(drafts: &Definitions, laid: &Definitions) -> bool
+    requires { good_files laid.now.groups ≡ true }
+    ensures { result ≡ good_files drafts.now.groups }
 {
-    for f in 0..10 {
-        if !is_draft_good(&drafts[32 * f..32 * f + 32], &laid[32 * f..32 * f + 32]) {
+    for f in 0..ALARM_FILE {
+        if !is_draft_good(drafts.groups_of(f), laid.groups_of(f)) {
             return false;
         }
     }
@@ -88,52 +122,50 @@ fn are_drafts_good(drafts: &[u16; 320], laid: &[u16; 320]) -> bool
 impl Settings {
     // Whether drafts, triggers and slots, which calls set one by one, keep their rules, where the laid-out definitions do.
     #[tactic(auto, using(crate::proofs::Every::triggers_good), unfolding(crate::specs::Validity::settings_valid))]
-    pub fn is_valid(&self, laid: &[u16; 320]) -> bool
-        requires { good_files laid.now ≡ true }
+    pub fn is_valid(&self, laid: &Definitions) -> bool
+        requires { good_files laid.now.groups ≡ true }
         ensures { result ≡ settings_valid self.now }
     {
-        are_drafts_good(&self.draft.groups, laid)
+        are_drafts_good(&self.draft, laid)
             && are_triggers_good(&self.triggers)
             && are_slots_good(&self.slots)
     }
 }
 
-// Whether no number of files 1 to 10 is over its file's n, nor the alarm file's over its depth.
-fn are_within(numbers: &[u16; 11], limits: &[u16; 10], depth: u16) -> bool
-    ensures { (groups : List ℕ) →
-        result ≡ within_limits numbers.now (layout_from groups limits.now depth) }
+// Whether no pointer, or no requested number, is over its file's n.
+fn are_within(numbers: &[u16; FILES], files: &[File; FILES]) -> bool
+    ensures { (l : Layout) → LaidOut l files.now → result ≡ within_limits numbers.now l }
 {
-    for (f, limit) in limits.iter().enumerate() {
-        if *limit < numbers[f] {
+    for (f, file) in files.iter().enumerate() {
+        if file.limit < numbers[f] {
             return false;
         }
     }
-    numbers[10] <= depth
+    true
 }
 
 impl Files {
-    // Judges and measures laid-out files: the bytes of a record of each, where their definitions are good, the layout fits the archive,
-    // and no pointer or requested number is over its n.
+    // Where the laid-out files lie, if their definitions are good, they fit the archive, and no pointer or requested number is over its n.
     #[tactic(auto, unfolding(crate::specs::Validity::files_valid, archive::specs::Layout::has_room))]
-    pub fn measure(&self, requested: &[u16; 11], depth: u16, size: usize) -> Option<[usize; 10]>
+    pub fn laid_out(
+        &self,
+        requested: &[u16; FILES],
+        depth: u16,
+        size: usize,
+    ) -> Option<[File; FILES]>
         ensures { JudgedFiles (layout_of self.now.layout depth)
             size self.now.pointers requested.now result }
     {
-        let layout = &self.layout;
-        let measured = measure(&layout.groups);
-        let sizes = measured.sizes;
-        if !measured.good {
+        let files = self.layout.files(depth)?;
+        if size < end_of(&files) {
             return None;
         }
-        if size < layout_size(&layout.groups, &layout.limits, &sizes, depth) {
+        if !are_within(&self.pointers, &files) {
             return None;
         }
-        if !are_within(&self.pointers, &layout.limits, depth) {
+        if !are_within(requested, &files) {
             return None;
         }
-        if !are_within(requested, &layout.limits, depth) {
-            return None;
-        }
-        Some(sizes)
+        Some(files)
     }
 }
