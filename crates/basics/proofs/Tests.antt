@@ -9,6 +9,9 @@ use borrow.Author.Tests.{eq-eqb, eqb-true, eqb-false, leb-true, ltb-true, ltb-fa
 use lib.Dec.{eqb, leb, ltb, lit<}
 use mir.Val.{bool_byte}
 use Rattle.basics.specs.Numbers.{within}
+use Rattle.basics.specs.Card.{card_of}
+use Rattle.basics.specs.declared.card.Refusal.{Refusal}
+use Rattle.basics.specs.declared.card.Refusal.TheVariants.{Memory, Foreign, Table, Clock, File, Locked, Group, Long, Trigger, Running, Room, Alarm, Reply, Garbled, Empty, Beyond}
 
 pub eqb_same : (n : ℕ) → eqb n n ≡ true
 eqb_same n = eq-eqb n n refl
@@ -63,3 +66,22 @@ eq-or-not a b = go (eqb a b) refl
 pub bool-byte : (b : Bool) → bool_byte b ≡ cond b 1 0
 bool-byte true = refl
 bool-byte false = refl
+
+-- no refusal is told as done
+pub refused-number : (r : Refusal) → eqb (card_of r).number 0 ≡ false
+refused-number Memory = refl
+refused-number Foreign = refl
+refused-number Table = refl
+refused-number Clock = refl
+refused-number File = refl
+refused-number Locked = refl
+refused-number (Group place) = refl
+refused-number Long = refl
+refused-number Trigger = refl
+refused-number Running = refl
+refused-number Room = refl
+refused-number Alarm = refl
+refused-number Reply = refl
+refused-number Garbled = refl
+refused-number Empty = refl
+refused-number Beyond = refl

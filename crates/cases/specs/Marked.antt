@@ -1,9 +1,8 @@
 -- Document 01, "Marked cases and known blunders": the marked cases, one list, and behind them cases of document 02, L1, L5 and L8.
 -- proofs/Check.antt computes them all at once.
-use Rattle.std.specs.Prelude.{List, [], ◌∷◌, ◌++◌, Bool, true, false, ◌&&◌, ℕ, zero, suc, ◌+◌, ◌-◌, ℤ, pos, negsuc, length, get_or, take, replicate}
+use Rattle.std.specs.Prelude.{Option, Some, None, List, [], ◌∷◌, ◌++◌, Bool, true, false, ◌&&◌, ℕ, zero, suc, ◌+◌, ◌-◌, ℤ, pos, negsuc, length, get_or, take, replicate}
 use Rattle.basics.specs.Lists.{tabulate, same}
-use Rattle.points.specs.declared.table.Found.{Found}
-use Rattle.points.specs.declared.table.Found.TheVariants.{In, Nowhere}
+use Rattle.points.specs.declared.table.Row.{Row}
 use Rattle.points.specs.Table.{table_bytes, row_of}
 use Rattle.basics.specs.Card.{Card, done_no, memory_no, foreign_no, clock_no, group_no, long_no, garbled_no, empty_no}
 use Rattle.modbus.specs.Word.{word_bytes}
@@ -72,9 +71,9 @@ shown_value (int32 z) = []
 shown_value (float x) = []
 shown_value (text bs) = bs
 
-abbrev value_in : Found → List ℕ → ℕ → List ℕ
-value_in Nowhere table p = []
-value_in (In r) table p = shown_value (value_in_table table r p)
+abbrev value_in : Option Row → List ℕ → ℕ → List ℕ
+value_in None table p = []
+value_in (Some r) table p = shown_value (value_in_table table r p)
 
 -- the number that Fresh answers: a unit, a firmware and a length of memory
 abbrev fresh_told : ℕ → ℕ → ℕ → List ℕ

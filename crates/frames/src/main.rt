@@ -2,58 +2,36 @@
 // tests/frames/expected.py computes the same lines apart from this program.
 #![tactic(auto)]
 
-ghost use Rattle.std.specs.Prelude.{◌≡◌, ◌+◌, ◌*◌, ◌≤◌, ◌<◌, length, take};
+ghost use Rattle.std.specs.Prelude.{◌≡◌, ◌+◌, ◌*◌, ◌≤◌, ◌<◌, length};
 
 use modbus::crc::{crc_of, ends_in_crc};
 use std::io;
 
 // How many damaged copies of a frame were tried, and how many of them the frame check refused.
-#[derive(Clone, Copy)]
+#[derive(Clone, Copy, Default)]
 struct Tally {
     tried: u64,
     refused: u64,
 }
 
-// One copy more.
-fn with_copy(t: Tally, refused: bool) -> Tally
-    requires { (t.tried < 1000) × (t.refused ≤ t.tried) }
-    ensures { (result.tried ≡ t.tried + 1) × (result.refused ≤ result.tried) }
-{
-    if refused {
-        return Tally {
-            tried: t.tried + 1,
-            refused: t.refused + 1,
-        };
+impl Tally {
+    // One copy more.
+    fn count(&mut self, refused: bool)
+        requires { (self.old.tried < 1000) × (self.old.refused ≤ self.old.tried) }
+        ensures { (self.new.tried ≡ self.old.tried + 1) × (self.new.refused ≤ self.new.tried) }
+    {
+        self.tried += 1;
+        self.refused += u64::from(refused);
     }
-    Tally {
-        tried: t.tried + 1,
-        refused: t.refused,
-    }
-}
-
-// A frame's length without its last k bytes; 0 where it has fewer.
-fn without_last(frame: &[u8], k: usize) -> usize
-    ensures within { result ≤ length frame.now }
-    ensures prefix_len { result ≡ length (take result frame.now) }
-{
-    let n = frame.len();
-    if n < k { 0 } else { n - k }
 }
 
 // A frame's bytes at the start of an array.
 fn copy_of(frame: &[u8]) -> [u8; 16]
     requires { length frame.now ≤ 16 }
 {
-    let mut copy = [0u8; 16];
+    let mut copy = [0; 16];
     copy[..frame.len()].copy_from_slice(frame);
     copy
-}
-
-// Whether the first n bytes of an array are refused.
-fn refused(copy: [u8; 16], n: usize) -> bool
-    requires { n ≤ 16 }
-{
-    !ends_in_crc(&copy[..n])
 }
 
 // Whether a frame is refused with one bit flipped; bits count from the lowest of the first byte.
@@ -61,15 +39,13 @@ fn refused_flipped(frame: &[u8], bit: usize) -> bool
     requires { (length frame.now ≤ 16) × (bit < 8 * length frame.now) }
 {
     let mut copy = copy_of(frame);
-    let i = bit / 8;
-    copy[i] = copy[i] ^ (1u8 << (bit % 8));
-    refused(copy, frame.len())
+    copy[bit / 8] ^= 1 << (bit % 8);
+    !ends_in_crc(&copy[..frame.len()])
 }
 
 // Whether a frame is refused with its last byte cut off.
 fn refused_cut(frame: &[u8]) -> bool {
-    let n = without_last(frame, 1);
-    !ends_in_crc(&frame[..n])
+    !ends_in_crc(without_last(frame, 1))
 }
 
 // Whether a frame is refused with its last two bytes swapped.
@@ -78,9 +54,13 @@ fn refused_swapped(frame: &[u8]) -> bool
 {
     let n = frame.len();
     let mut copy = copy_of(frame);
-    copy[n - 2] = frame[n - 1];
-    copy[n - 1] = frame[n - 2];
-    refused(copy, n)
+    copy.swap(n - 2, n - 1);
+    !ends_in_crc(&copy[..n])
+}
+
+// A frame without its last k bytes; nothing where it has fewer.
+fn without_last(frame: &[u8], k: usize) -> &[u8] {
+    &frame[..frame.len().saturating_sub(k)]
 }
 
 // Every bit of a frame flipped in turn.
@@ -88,101 +68,71 @@ fn flipped(frame: &[u8]) -> Tally
     requires { length frame.now ≤ 16 }
     ensures { (result.tried ≡ 8 * length frame.now) × (result.refused ≤ result.tried) }
 {
-    let mut t = Tally {
-        tried: 0,
-        refused: 0,
-    };
+    let mut tally = Tally::default();
     for bit in 0..8 * frame.len() {
-        t = with_copy(t, refused_flipped(frame, bit));
+        tally.count(refused_flipped(frame, bit));
     }
-    t
+    tally
 }
 
 // Every damaged copy of a frame: each bit flipped, the last byte cut off, the last two swapped.
 fn damaged(frame: &[u8]) -> Tally
     requires { length frame.now ≤ 16 }
 {
-    let n = frame.len();
-    let bits = flipped(frame);
-    if n < 1 {
-        return bits;
+    let mut tally = flipped(frame);
+    if 1 <= frame.len() {
+        tally.count(refused_cut(frame));
     }
-    let cut = with_copy(bits, refused_cut(frame));
-    if n < 2 {
-        return cut;
+    if 2 <= frame.len() {
+        tally.count(refused_swapped(frame));
     }
-    with_copy(cut, refused_swapped(frame))
-}
-
-// A digit's sign, upper case.
-fn digit(d: u8) -> u8
-    requires { d < 16 }
-{
-    if d < 10 { b'0' + d } else { b'A' + (d - 10) }
-}
-
-// Writes a byte as two digits.
-fn write_byte(rt: &impl Print, b: u8) -> io::Result<()> {
-    let text = [digit(b / 16), digit(b % 16)];
-    rt.write_all(&text)
+    tally
 }
 
 // Writes a frame's bytes, a space after each.
 fn write_frame(rt: &impl Print, frame: &[u8]) -> io::Result<()> {
-    if frame.len() == 0 {
+    if frame.is_empty() {
         print!(rt; "(no bytes) ")?;
     }
     for byte in frame {
-        write_byte(rt, *byte)?;
-        print!(rt; " ")?;
+        print!(rt; "{byte:02X} ")?;
     }
     Ok(())
 }
 
-// Writes the CRC of what is before a frame's last two bytes; before a shorter frame's there is nothing.
-fn write_crc(rt: &impl Print, frame: &[u8]) -> io::Result<()> {
-    let n = without_last(frame, 2);
-    let sum = crc_of(&frame[..n]);
-    print!(rt; "crc ")?;
-    write_byte(rt, (sum / 256) as u8)?;
-    write_byte(rt, (sum % 256) as u8)
-}
-
-// Writes a frame's line. The source is printed as the bytes that it has, which need not be text.
-fn show(rt: &impl Print, frame: &[u8], source: &[u8]) -> io::Result<()>
+// Writes a frame's line, with the CRC of what is before its last two bytes; before a shorter frame's there is nothing.
+fn show(rt: &impl Print, frame: &[u8], source: &str) -> io::Result<()>
     requires { length frame.now ≤ 16 }
 {
     write_frame(rt, frame)?;
-    write_crc(rt, frame)?;
-    if ends_in_crc(frame) {
-        print!(rt; " checks, ")?;
+    let sum = crc_of(without_last(frame, 2));
+    let verdict = if ends_in_crc(frame) {
+        "checks"
     } else {
-        print!(rt; " does not check, ")?;
-    }
-    let t = damaged(frame);
-    print!(rt; "{} of {} damaged copies refused (", t.refused, t.tried)?;
-    rt.write_all(source)?;
-    println!(rt; ")")
+        "does not check"
+    };
+    let Tally { tried, refused } = damaged(frame);
+    println!(rt; "crc {sum:04X} {verdict}, {refused} of {tried} damaged copies refused ({source})")
 }
 
 // The pages of the Simply Modbus manual, simplymodbus.ca, as the lines of their frames name them.
-const FC01: &[u8] = b"Simply Modbus, FC01";
+const FC01: &str = "Simply Modbus, FC01";
 
-const FC02: &[u8] = b"Simply Modbus, FC02";
+const FC02: &str = "Simply Modbus, FC02";
 
-const FC03: &[u8] = b"Simply Modbus, FC03";
+const FC03: &str = "Simply Modbus, FC03";
 
-const FC04: &[u8] = b"Simply Modbus, FC04";
+const FC04: &str = "Simply Modbus, FC04";
 
-const FC05: &[u8] = b"Simply Modbus, FC05";
+const FC05: &str = "Simply Modbus, FC05";
 
-const FC06: &[u8] = b"Simply Modbus, FC06";
+const FC06: &str = "Simply Modbus, FC06";
 
-const FC15: &[u8] = b"Simply Modbus, FC15";
+const FC15: &str = "Simply Modbus, FC15";
 
-const FC16: &[u8] = b"Simply Modbus, FC16";
+const FC16: &str = "Simply Modbus, FC16";
 
-const EXCEPTIONS: &[u8] = b"Simply Modbus, Exceptions";
+const EXCEPTIONS: &str = "Simply Modbus, Exceptions";
 
 // Frames of the Simply Modbus manual, simplymodbus.ca: the pages of functions 1 to 16, and of exceptions.
 fn simply_modbus(rt: &impl Print) -> io::Result<()> {
@@ -205,7 +155,7 @@ fn simply_modbus(rt: &impl Print) -> io::Result<()> {
 
 // What the lines of the shortest frames name as their source: the bit rule. A CRC starts at FFFF; each byte is exclusive-ored into
 // it, then it goes eight times one bit to the right, and each 1 that is lost there exclusive-ors in A001.
-const BIT_RULE: &[u8] = b"document 01's bit rule";
+const BIT_RULE: &str = "document 01's bit rule";
 
 // Frames of 0 to 3 bytes. FF FF checks, since the CRC of nothing is FFFF; swapped it is itself, and checks too.
 fn short_frames(rt: &impl Print) -> io::Result<()> {
@@ -220,12 +170,12 @@ fn main(rt: HostRuntime) -> io::Result<()> {
     show(
         &rt,
         b"\x02\x07\x41\x12",
-        b"MODBUS over Serial Line V1.02, 6.2.2",
+        "MODBUS over Serial Line V1.02, 6.2.2",
     )?;
     show(
         &rt,
         b"\x31\x32\x33\x34\x35\x36\x37\x38\x39\x37\x4B",
-        b"CRC catalogue, CRC-16/MODBUS, check 4B37",
+        "CRC catalogue, CRC-16/MODBUS, check 4B37",
     )?;
     simply_modbus(&rt)?;
     short_frames(&rt)

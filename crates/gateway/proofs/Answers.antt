@@ -4,20 +4,19 @@
 --     own_next         where neither applies, the call's own answer stands
 --     point_small, slot_small    a point that is taken fits 16 bits, and so does a slot that is
 use Rattle.basics.specs.declared.card.Refusal.{Refusal}
-use Rattle.basics.specs.declared.card.Refusal.TheVariants.{Memory, Foreign, Table, Clock, File, Locked, Group, Long, Trigger, Running, Room, Alarm, Reply, Garbled, Empty, Beyond}
 use Rattle.basics.specs.Card.{Card, card, card_of, done_card}
 use mathlib.Core.Path.{◌≡◌, refl, sym, ap, ◌∙◌}
 use Prim.Native.Nat.{ℕ, ◌≤◌}
 use mathlib.Core.Bool.{Bool, true, false, cond, not, ◌&&◌}
 use native.Mathlib.Omega.{arith}
-use borrow.Author.Tests.{ne_eqb, leb-true}
+use borrow.Author.Tests.{eqb-false, ne_eqb, leb-true}
 use lib.Dec.{leb, eqb}
 use mathlib.Core.Logic.{⊎_elim}
 use Rattle.points.specs.Table.{boolean_or_none, float_or_none}
 use Rattle.points.proofs.Laws.{boolean-inside, float-inside}
 use Rattle.archive.specs.Alarms.{good_slot}
 use Rattle.basics.specs.Numbers.{within}
-use Rattle.basics.proofs.Tests.{and_left, and_right, eq-or-not, within-inside}
+use Rattle.basics.proofs.Tests.{and_left, and_right, eq-or-not, within-inside, refused-number}
 use Rattle.modbus.specs.Frame.{good_unit}
 use Rattle.state.specs.declared.parts.State.{State}
 use Rattle.gateway.specs.declared.calls.Answer.{Answer}
@@ -27,22 +26,7 @@ use Rattle.state.specs.Validity.{state_number}
 
 -- no refusal has the number of a call that is done
 pub some_number : (e : Refusal) → (card_of e).number ≡ 0 → ⊥
-some_number Memory h = omega (arith, h)
-some_number Foreign h = omega (arith, h)
-some_number Table h = omega (arith, h)
-some_number Clock h = omega (arith, h)
-some_number File h = omega (arith, h)
-some_number Locked h = omega (arith, h)
-some_number (Group place) h = omega (arith, h)
-some_number Long h = omega (arith, h)
-some_number Trigger h = omega (arith, h)
-some_number Running h = omega (arith, h)
-some_number Room h = omega (arith, h)
-some_number Alarm h = omega (arith, h)
-some_number Reply h = omega (arith, h)
-some_number Garbled h = omega (arith, h)
-some_number Empty h = omega (arith, h)
-some_number Beyond h = omega (arith, h)
+some_number e = eqb-false _ 0 (refused-number e)
 
 pub refused_some : (s : State) (size : ℕ) (e : Refusal) → card_of e ≡ card (state_number s size) 0 → eqb (state_number s size) 0 ≡ false
 refused_some s size e is = ne_eqb (state_number s size) 0 (λ none. some_number e (ap (λ (k : Card). k.number) is ∙ none))

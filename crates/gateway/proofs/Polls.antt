@@ -10,7 +10,7 @@ use mathlib.Core.List.{List}
 use mathlib.Core.Bool.{true, false}
 use Prim.Native.Nat.{ℕ, ◌<◌, ◌≤◌}
 use native.Mathlib.Omega.{arith}
-use borrow.Author.Tests.{eq-eqb, ne_eqb, lt-ltb, le-ltb}
+use borrow.Author.Tests.{eq-eqb, ne_eqb, leb-true, lt-ltb, le-ltb}
 use lib.Dec.{eqb}
 use lib.ListN.{length}
 use Rattle.basics.specs.declared.card.Refusal.{Refusal}
@@ -18,15 +18,16 @@ use Rattle.basics.specs.declared.card.Refusal.TheVariants.{Table, Reply}
 use Rattle.basics.specs.Card.{Card, card, card_of, table_no, reply_no}
 use Rattle.basics.proofs.Tests.{by_cond}
 use Rattle.points.specs.Table.{table_bytes}
-use Rattle.archive.specs.Layout.{layout_of, defined_files, all_files}
+use Rattle.archive.specs.declared.layout.File.{File}
+use Rattle.archive.specs.Layout.{good_files, has_room, layout_size}
+use Rattle.polls.proofs.Agree.{laid_lends}
 use Rattle.polls.specs.View.{archive_view}
 use Rattle.polls.specs.Frames.{Answers}
 use Rattle.polls.specs.Lent.{least_buffer, LentPoll}
 use Rattle.polls.proofs.Laws.{requested-within}
 use Rattle.polls.proofs.Lengths.{reply-short}
 use Rattle.state.specs.declared.parts.State.{State}
-use Rattle.state.specs.declared.check.Laid.{Laid}
-use Rattle.state.specs.Lent.{IsLaidOut}
+use Rattle.state.specs.Lent.{IsTaken}
 use Rattle.state.specs.State.{laid_out, with_requested}
 use Rattle.state.specs.Validity.{state_number, valid}
 use Rattle.state.proofs.Clauses.{valid-split, valid-join, within-split, within-join}
@@ -61,41 +62,31 @@ module _ (s : State) (m table frame buffer : List ℕ) where
   unfolding poll_number
   buffer_refused taken whole short = refused Reply (simp (taken, eq-eqb _ _ whole, lt-ltb _ _ short))
 
-  -- what the answering function is lent
-  pub poll_lends : (laid : Laid) → IsLaidOut s (length m) laid → length table ≡ table_bytes → least_buffer ≤ length buffer →
-      length s.files.layout.groups ≡ 320 → length s.files.layout.limits ≡ defined_files → length laid.sizes ≡ defined_files →
-      length s.files.pointers ≡ all_files → length s.line.requested ≡ all_files →
-      LentPoll s.files.layout.groups s.files.layout.limits laid.sizes laid.depth s.files.pointers s.line.requested m table buffer
-  poll_lends laid taken whole buffered defines limited measured pointed numbered =
-      let holds = valid-split s taken.sound in
-      record {
-        layout = record { defines = defines; limited = limited; measured = measured; good = holds.laid; sized = taken.sized };
-        room = rw (taken.same, taken.deep) holds.room;
-        pointed = pointed;
-        numbered = numbered;
-        whole = whole;
-        buffered = buffered;
-      }
+  -- where a state is taken, what the answering function is lent, and what it leaves
+  module _ (files : List File) (taken : IsTaken s (length m) files) where
+    good : good_files s.files.layout.groups ≡ true
+    good = (valid-split s taken.sound).laid
 
-  -- what it answers leaves a poll that is done
-  pub poll_done : (laid : Laid) (told : ℕ) (buffer' requested' : List ℕ) → state_number s (length m) ≡ 0 → length table ≡ table_bytes → least_buffer ≤ length buffer →
-      IsLaidOut s (length m) laid →
-      Answers (archive_view s.site.unit (layout_of s.files.layout laid.depth) s.files.pointers s.line.requested m table) frame buffer told buffer' requested' →
-      Polled s m table frame buffer (poll_told (with_requested s requested') 0 told) m table buffer'
-  unfolding poll_answer poll_buffer poll_number poll_view
-  poll_done laid told buffer' requested' taken whole buffered layout answered =
-      let none : number ≡ 0 = simp (taken, eq-eqb _ _ whole, le-ltb _ _ buffered) in
-      let answers = rw layout.deep at answered in
-      record { answer = rw (none, answers.asks, answers.sent.size) refl; memory = refl; kept = refl; reply = rw none answers.sent.left }
+    pub poll_lends : least_buffer ≤ length buffer → LentPoll files m buffer
+    unfolding has_room
+    poll_lends buffered =
+        let room = leb-true (layout_size (laid_out s)) s.site.archive_length (valid-split s taken.sound).room in
+        laid_lends (laid_out s) files m buffer good taken.laid (omega (arith, room, taken.same)) buffered
 
-  -- its reply's length fits
-  pub poll_short : (laid : Laid) (told : ℕ) (buffer' requested' : List ℕ) → IsLaidOut s (length m) laid →
-      Answers (archive_view s.site.unit (layout_of s.files.layout laid.depth) s.files.pointers s.line.requested m table) frame buffer told buffer' requested' →
-      told ≤ least_buffer
-  poll_short laid told buffer' requested' layout answered =
-      let good = (valid-split s layout.sound).laid in
-      let short = reply-short s.site.unit (layout_of s.files.layout laid.depth) s.files.pointers s.line.requested m table good frame in
-      omega (arith, short, answered.sent.size)
+    pub poll_done : (told : ℕ) (buffer' requested' : List ℕ) → state_number s (length m) ≡ 0 → length table ≡ table_bytes → least_buffer ≤ length buffer →
+        Answers (archive_view s.site.unit (laid_out s) s.files.pointers s.line.requested m table) frame buffer told buffer' requested' →
+        Polled s m table frame buffer (poll_told (with_requested s requested') 0 told) m table buffer'
+    unfolding poll_answer poll_buffer poll_number poll_view
+    poll_done told buffer' requested' number_taken whole buffered answers =
+        let none : number ≡ 0 = simp (number_taken, eq-eqb _ _ whole, le-ltb _ _ buffered) in
+        record { answer = rw (none, answers.asks, answers.sent.size) refl; memory = refl; kept = refl; reply = rw none answers.sent.left }
+
+    -- its reply's length fits
+    pub poll_short : (told : ℕ) (buffer' requested' : List ℕ) →
+        Answers (archive_view s.site.unit (laid_out s) s.files.pointers s.line.requested m table) frame buffer told buffer' requested' → told ≤ least_buffer
+    poll_short told buffer' requested' answers =
+        let short = reply-short s.site.unit (laid_out s) s.files.pointers s.line.requested m table good frame in
+        omega (arith, short, answers.sent.size)
 
   pub poll-valid : valid s ≡ true → valid (poll_answer s m table frame (length buffer)).state ≡ true
   unfolding poll_answer poll_view

@@ -1,14 +1,13 @@
 // The calls that make and lay out files: Fresh, Define and Start.
 ghost use Rattle.std.specs.Prelude.{◌≡◌, true, ◌≤◌, OnOk};
 ghost use Rattle.basics.specs.Card.{card, card_told};
-ghost use Rattle.points.specs.Groups.{judged_card};
 ghost use Rattle.archive.specs.Layout.{good_files, layout_of, has_room};
 ghost use Rattle.gateway.specs.Calls.{answer_of, fresh_told, fresh_number, MadeFresh, Defined, Started};
 
 use crate::calls::place_of;
-use archive::layout::{ALARM_SIZE, Definitions, layout_size, measure};
+use archive::layout::{ALARM_SIZE, Definitions, end_of};
 use basics::card::Refusal;
-use points::groups::{Judged, judge};
+use points::groups::judge;
 use state::firmware::{alarm_depth, is_firmware_good};
 use state::parts::{Files, Line, State};
 
@@ -50,17 +49,6 @@ pub fn fresh(
     Ok(State::fresh(day_first, unit as u8, firmware as u16, size as u32))
 }
 
-// Whether 32 numbers keep the rules of a definition.
-fn judge_definition(groups: &[u16; 32]) -> Result<(), Refusal>
-    ensures { card_told result ≡ judged_card groups.now }
-{
-    match judge(groups) {
-        Judged::BadGroup(place) => Err(Refusal::Group(place)),
-        Judged::Long => Err(Refusal::Long),
-        Judged::Good(_) => Ok(()),
-    }
-}
-
 // Define: replaces one file's draft. A layout is not touched before Start.
 #[tactic(auto, using(crate::proofs::Answers::refused_first, crate::proofs::Answers::own_next), unfolding(crate::specs::Calls::define_answer, crate::specs::Calls::definition_answer))]
 pub fn define(
@@ -78,7 +66,7 @@ pub fn define(
     if !state.flags.unlocked {
         return Err(Refusal::Locked);
     }
-    judge_definition(groups)?;
+    judge(groups)?;
     state.settings.draft.groups[32 * place..32 * place + 32].copy_from_slice(groups);
     state.settings.draft.limits[place] = limit;
     Ok(())
@@ -90,8 +78,10 @@ fn has_draft_room(draft: &Definitions, depth: u16, size: usize) -> bool
     requires { good_files draft.now.groups ≡ true }
     ensures { result ≡ has_room (layout_of draft.now depth) size }
 {
-    let measured = measure(&draft.groups);
-    layout_size(&draft.groups, &draft.limits, &measured.sizes, depth) <= size
+    match draft.files(depth) {
+        Some(files) => end_of(&files) <= size,
+        None => false,
+    }
 }
 
 // Start: running on, unlocked off. Pending, it lays out the draft and empties every file.
@@ -100,9 +90,9 @@ pub fn start(state: &mut State, archive: &mut [u8]) -> Result<(), Refusal>
     ensures { Started state.old archive.old (answer_of result state.new) archive.new }
 {
     let size = archive.len();
-    let laid = state.check(size)?;
+    state.check(size)?;
     if state.flags.pending {
-        if !has_draft_room(&state.settings.draft, laid.depth, size) {
+        if !has_draft_room(&state.settings.draft, state.site.alarm_depth(), size) {
             return Err(Refusal::Room);
         }
         archive.fill(0);

@@ -1,13 +1,12 @@
 // The poll: a frame answered in the reply buffer that it will be sent from.
-ghost use Rattle.std.specs.Prelude.{◌≡◌, length};
-ghost use Rattle.archive.specs.Layout.{all_files};
+ghost use Rattle.std.specs.Prelude.{◌≡◌};
 ghost use Rattle.state.specs.declared.parts.State.{State};
 ghost use Rattle.gateway.specs.Poll.{poll_told, poll_answer_of, Polled};
 
 use crate::live::whole_table;
 use basics::card::{DONE, Refusal};
-use polls::poll::answer;
-use state::parts::{Line, State};
+use polls::view::View;
+use state::parts::State;
 
 // The card's number, the reply's length, 0 for none, and the state.
 #[repr(C)]
@@ -43,15 +42,6 @@ pub fn told_of(outcome: Result<u32, Refusal>) -> PollTold
 // The least bytes of a reply buffer: no reply is longer.
 const LEAST_BUFFER: usize = 256;
 
-// The requested numbers. That there is one for each file is told here, where the line stands alone: behind a whole state the search does
-// not see it.
-fn requested_of(line: &Line) -> [u16; 11]
-    ensures same { result ≡ line.now.requested }
-    ensures each { length result ≡ all_files }
-{
-    line.requested
-}
-
 // Poll: answers a frame of any length and content at the start of the reply buffer, from the archive or the live table, and tells the
 // reply's length, 0 for none. Bytes past the reply are left as they were.
 pub fn poll(
@@ -64,26 +54,20 @@ pub fn poll(
     ensures { Polled state.old archive.now table.now frame.now reply.old
         (poll_answer_of result state.new) archive.now table.now reply.new }
 {
-    let laid = state.check(archive.len())?;
+    let files = state.check(archive.len())?;
     let table = whole_table(table)?;
     if reply.len() < LEAST_BUFFER {
         return Err(Refusal::Reply);
     }
-    let lent = &*state;
-    let requested = requested_of(&lent.line);
-    let answered = answer(
-        reply,
-        lent.site.unit,
-        frame,
+    let view = View {
+        unit: state.site.unit,
+        files: &files,
+        pointers: &state.files.pointers,
+        requested: &state.line.requested,
         archive,
         table,
-        &lent.files.layout.groups,
-        &lent.files.layout.limits,
-        &laid.sizes,
-        laid.depth,
-        &lent.files.pointers,
-        requested,
-    );
+    };
+    let answered = view.answer(reply, frame);
     let numbers = answered.requested;
     state.line.requested = numbers;
     Ok(answered.length as u32)

@@ -16,7 +16,7 @@ use Rattle.basics.proofs.Tests.{eqb_same}
 use Rattle.modbus.specs.Crc.{with_crc, ends_in_crc}
 use Rattle.modbus.specs.Frame.{good_unit, read_reply, read_reply_by}
 use Rattle.modbus.proofs.Laws.{framed-checks}
-use Rattle.points.specs.declared.groups.Judged.TheVariants.{Good}
+use Rattle.std.specs.Prelude.{Ok}
 use Rattle.points.specs.Groups.{record_size, judged}
 use Rattle.points.proofs.Laws.{judged-done}
 use Rattle.reader.specs.declared.frame.Checked.TheVariants as Checked
@@ -44,7 +44,7 @@ all-zeros : (n : ℕ) → all_zero (replicate n 0) ≡ true
 all-zeros zero = refl
 all-zeros (suc n) = all-zeros n
 
-module _ (unit size : ℕ) (gs : List ℕ) (day_first : Bool) (ours : good_unit unit ≡ true) (good : judged gs ≡ Good size) where
+module _ (unit size : ℕ) (gs : List ℕ) (day_first : Bool) (ours : good_unit unit ≡ true) (good : judged gs ≡ Ok size) where
   abbrev blank : List ℕ
   blank = replicate size 0
 
@@ -104,7 +104,7 @@ module _ {day_first : Bool} {unit firmware : ℕ} {m₀ : List ℕ} {cs : List C
       rw (site, laid) at (all_made day_first unit firmware (length m₀) cs f below)
 
   -- its definition, and the unit
-  file-good : (judged gs ≡ Good (record_size gs)) × (good_unit unit ≡ true)
+  file-good : (judged gs ≡ Ok (record_size gs)) × (good_unit unit ≡ true)
   unfolding good_files is_good
   file-good =
       let end = ended ran in

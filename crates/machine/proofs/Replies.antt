@@ -17,6 +17,7 @@ use Rattle.basics.proofs.Tests.{eqb_same}
 use Rattle.modbus.specs.Frame.{function_of, address_of, quantity_of, read_reply, exception_reply, illegal_value}
 use Rattle.points.specs.Table.{table_bytes}
 use Rattle.archive.specs.Layout.{limit_of, alarm_file, all_files}
+use Rattle.polls.specs.declared.request.Part.TheVariants.{Whole}
 use Rattle.polls.specs.View.{View}
 use Rattle.polls.specs.Addresses.{record_asked, read_asked}
 use Rattle.polls.specs.Frames.{asked, reply_of, reply_to}
@@ -36,7 +37,7 @@ use Rattle.machine.proofs.Sources.{site-kept}
 
 -- ---- what the two addresses ask for
 module _ (limit : ℕ → ℕ) (requested : List ℕ) (f k : ℕ) (file : f < all_files) where
-  on-720 : read_asked limit requested (720 + (f + 1)) k ≡ record_asked (limit f) f k
+  on-720 : read_asked limit requested (720 + (f + 1)) k ≡ record_asked (limit f) f k Whole
   unfolding read_asked
   on-720 =
       let past : leb (720 + (f + 1)) 711 ≡ false = lt-leb (720 + (f + 1)) 711 (omega arith) in
@@ -46,7 +47,7 @@ module _ (limit : ℕ → ℕ) (requested : List ℕ) (f k : ℕ) (file : f < al
       let own : 720 + (f + 1) - 721 ≡ f = omega arith in
       simp (past, high, from, to, own)
 
-  on-700 : (q : ℕ) → get_or requested f 0 ≡ k → read_asked limit requested (700 + (f + 1)) q ≡ record_asked (limit f) f k
+  on-700 : (q : ℕ) → get_or requested f 0 ≡ k → read_asked limit requested (700 + (f + 1)) q ≡ record_asked (limit f) f k Whole
   unfolding read_asked
   on-700 q is =
       let from : leb 701 (700 + (f + 1)) ≡ true = le-leb 701 (700 + (f + 1)) (omega arith) in
@@ -56,15 +57,15 @@ module _ (limit : ℕ → ℕ) (requested : List ℕ) (f k : ℕ) (file : f < al
 
 -- ---- the reply, over what a poll sees
 module _ (v : View) (frame : List ℕ) (f k : ℕ) (file : f < all_files) where
-  read_reply_lem : (a q : ℕ) → Read v.unit a q frame → read_asked v.limit v.requested a q ≡ record_asked (v.limit f) f k →
-      reply_to v frame ≡ reply_of v frame (record_asked (v.limit f) f k)
+  read_reply_lem : (a q : ℕ) → Read v.unit a q frame → read_asked v.limit v.requested a q ≡ record_asked (v.limit f) f k Whole →
+      reply_to v frame ≡ reply_of v frame (record_asked (v.limit f) f k Whole)
   unfolding reply_to asked
   read_reply_lem a q read asks =
-      let is : read_asked v.limit v.requested (address_of frame) (quantity_of frame) ≡ record_asked (v.limit f) f k
+      let is : read_asked v.limit v.requested (address_of frame) (quantity_of frame) ≡ record_asked (v.limit f) f k Whole
       = ap₂ (read_asked v.limit v.requested) read.at read.asks ∙ asks in
       rw (read.heard, read.ours, eqb_same v.unit, read.reads, read.long, is) refl
 
-  number-reply : ReadsRecord v.unit v.requested f k frame → reply_to v frame ≡ reply_of v frame (record_asked (v.limit f) f k)
+  number-reply : ReadsRecord v.unit v.requested f k frame → reply_to v frame ≡ reply_of v frame (record_asked (v.limit f) f k Whole)
   number-reply (by_quantity read) = read_reply_lem _ _ read (on-720 v.limit v.requested f k file)
   number-reply (by_requested q is read) = read_reply_lem _ _ read (on-700 v.limit v.requested f k file q is)
 

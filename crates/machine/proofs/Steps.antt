@@ -10,10 +10,11 @@ use Prim.Native.Nat.{ℕ}
 use borrow.Author.Tests.{eqb-true}
 use lib.Dec.{eqb}
 use lib.ListN.{length}
-use Rattle.basics.specs.Card.{Card, card, done_card, done_no, file_no, locked_no, trigger_no, running_no, alarm_no}
+use Rattle.basics.specs.Card.{Card, card, card_told, done_card, done_no, file_no, locked_no, trigger_no, running_no, alarm_no}
 use Rattle.basics.specs.Numbers.{within}
-use Rattle.points.specs.declared.groups.Judged.{Judged}
-use Rattle.points.specs.Card.{card_of}
+use Rattle.std.specs.Prelude.{Result, Ok, Err}
+use Rattle.basics.specs.declared.card.Refusal.{Refusal}
+use Rattle.basics.proofs.Tests.{refused-number}
 use Rattle.points.specs.Table.{boolean_or_none}
 use Rattle.points.specs.Groups.{judged, judged_card}
 use Rattle.archive.specs.Alarms.{slot_count, good_slot}
@@ -169,12 +170,11 @@ module _ (M : Machine) (m : List ℕ) (good : Good M m) where
     unfolding definition_answer does state_of
     definition_answer_lem = go (judged gs)
       where
-        go : (j : Judged) →
-            cond (eqb (card_of j).number 0) (answer_by M (define f gs n) done_card) (told (state_of M) (card_of j).number (card_of j).carried)
-            ≡ answer_by M (define f gs n) (card_of j)
-        go (Judged.Good size) = refl
-        go (Judged.BadGroup g) = refl
-        go Judged.Long = refl
+        go : (j : Result ℕ Refusal) →
+            cond (eqb (card_told j).number 0) (answer_by M (define f gs n) done_card) (told (state_of M) (card_told j).number (card_told j).carried)
+            ≡ answer_by M (define f gs n) (card_told j)
+        go (Ok size) = refl
+        go (Err refusal) = simp (refused-number refusal)
 
     define_answer_lem : define_answer (state_of M) (length m) f gs n ≡ answer_by M (define f gs n) (card_for M (define f gs n))
     unfolding define_answer card_for state_of

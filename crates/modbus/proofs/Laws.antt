@@ -1,13 +1,13 @@
 -- Laws of the frame check and of words, for lists of any numbers. Assumes nothing.
 --     crc-fits         a CRC is below 65,536
---     last-two         the last two numbers of a list
 --     framed-checks    a list followed by its CRC, low byte first, ends in its CRC
 --     length-framed    its length
---     crc-behind       the CRC of a buffer's first bytes, stored behind them
+--     high_bit_or      a byte with 80 hex or-ed in
+--     crc_behind       the CRC of a buffer's first bytes, stored behind them
 --     header-closed    three bytes of a header before bytes that stand in a buffer, and the CRC behind them
 --     closed-over, closed-part    bytes that were put behind the place of a header, or into the part there, made a read reply
 --     word-read-back   a word written at any place of a list reads back
-use mathlib.Core.Path.{◌≡◌, sym, ap, ◌∙◌, subst}
+use mathlib.Core.Path.{◌≡◌, refl, sym, ap, ◌∙◌, subst}
 use mathlib.Core.List.{List, [], ◌∷◌, ◌++◌, append_assoc}
 use mathlib.Core.Bool.{Bool, true, false, cond}
 use Prim.Native.Nat.{ℕ, zero, suc, ◌+◌, ◌-◌, ◌/◌, ◌%◌, ◌^◌, ◌≤◌, ◌<◌}
@@ -15,14 +15,14 @@ use native.Mathlib.Nat.{div-add-mod'}
 use native.Mathlib.Omega.{arith}
 use borrow.Author.Tests.{le-leb}
 use lib.Dec.{eqb, leb, lit<}
-use lib.Bits.{bit_xor, xor_lt}
+use lib.Bits.{bit_or, bit_xor, xor_lt}
 use lib.ListN.{length, get_or, take, drop, length-append}
-use lib.Seq.{sets, drop-cons, drop-length, get_or_at, length-take-le, take-append_seam, drop-append_seam}
-use Rattle.basics.specs.Lists.{pasted}
-use Rattle.basics.proofs.Lists.{sets-pasted, part-here, part-back, pasted-over}
+use lib.Seq.{sets, get_or_at, length-take-le, take-append_seam, drop-append_seam}
+use Rattle.basics.specs.Lists.{pasted, tabulate}
+use Rattle.basics.proofs.Lists.{get_or-tabulate, sets-pasted, part-here, part-back, pasted-over}
 use Rattle.basics.proofs.Tests.{eqb_same}
 use Rattle.modbus.specs.Crc.{crc_shift, crc_shifts, crc_byte, crc_from, crc_of, crc_bytes, with_crc, ends_in_crc}
-use Rattle.modbus.specs.Frame.{read_reply_by, Sent}
+use Rattle.modbus.specs.Frame.{read_reply_by, high_bit_set, Sent}
 use Rattle.modbus.specs.Word.{word_at, word_bytes}
 
 -- ---- the CRC fits 16 bits
@@ -56,14 +56,6 @@ unfolding crc_of
 crc-fits bs = from-fits 0xFFFF bs (lit< tt)
 
 -- ---- a list followed by its CRC checks
-pub last-two : (s : List ℕ) → 2 ≤ length s → drop (length s - 2) s ≡ get_or s (length s - 2) 0 ∷ get_or s (length s - 1) 0 ∷ []
-last-two s long =
-    let n = length s in
-    let next : suc (n - 2) ≡ n - 1 = omega arith in
-    let end : suc (n - 1) ≡ n = omega arith in
-    drop-cons s (n - 2) 0 (omega arith)
-    ∙ ap (λ t. get_or s (n - 2) 0 ∷ t) (ap (λ k. drop k s) next ∙ drop-cons s (n - 1) 0 (omega arith) ∙ ap (λ k. get_or s (n - 1) 0 ∷ drop k s) end ∙ ap (λ t. get_or s (n - 1) 0 ∷ t) (drop-length s))
-
 pub framed-checks : (bs : List ℕ) → ends_in_crc (with_crc bs) ≡ true
 unfolding with_crc ends_in_crc
 framed-checks bs =
@@ -75,18 +67,28 @@ framed-checks bs =
     let tail : drop (length bs) (bs ++ crc_bytes c) ≡ crc_bytes c = drop-append_seam bs (crc_bytes c) in
     simp (n, two, front, body, tail, eqb_same)
 
+-- ---- a byte with its highest bit set, tested at each byte
+high-bits : tabulate 256 (λ f. bit_or f 0x80) ≡ tabulate 256 high_bit_set
+unfolding tabulate high_bit_set
+high-bits = refl
+
+pub high_bit_or : (f : ℕ) → f < 256 → bit_or f 0x80 ≡ high_bit_set f
+high_bit_or f byte =
+    sym (get_or-tabulate 256 (λ k. bit_or k 0x80) f 0 byte) ∙ ap (λ l. get_or l f 0) high-bits ∙ get_or-tabulate 256 high_bit_set f 0 byte
+
 pub length-framed : (bs : List ℕ) → length (with_crc bs) ≡ length bs + 2
 unfolding with_crc
 length-framed bs = length-append bs (crc_bytes (crc_of bs))
 
 -- ---- frames in a buffer
-pub crc-behind : (b : List ℕ) (n sum : ℕ) → n + 2 ≤ length b → sum ≡ crc_of (take n b) → sets b n (crc_bytes sum) ≡ pasted b 0 (with_crc (take n b))
+pub crc_behind : (b sum : List ℕ) (n k : ℕ) → n + 2 ≤ length b → k ≡ 2 → sum ≡ crc_bytes (crc_of (take n b)) →
+    take n b ++ (sum ++ drop k (drop n b)) ≡ pasted b 0 (with_crc (take n b))
 unfolding with_crc
-crc-behind b n sum fits is =
+crc_behind b sum n k fits two is =
     let front = take n b in
     let end : n + 2 ≡ 0 + length (take n b ++ crc_bytes (crc_of (take n b))) = simp (length-append, length-take-le n b (omega arith)) (omega arith) in
-    ap (λ c. sets b n (crc_bytes c)) is
-    ∙ sets-pasted b (crc_bytes (crc_of front)) n fits
+    part-back b sum n k (ap length is ∙ sym two)
+    ∙ ap (λ c. pasted b n c) is
     ∙ sym (append_assoc front (crc_bytes (crc_of front)) (drop (n + 2) b))
     ∙ ap (λ k. (front ++ crc_bytes (crc_of front)) ++ drop k b) end
 

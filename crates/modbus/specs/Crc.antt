@@ -1,4 +1,4 @@
--- Document 01, "Frames": the CRC of Modbus RTU, and a frame that ends in its own.
+-- The CRC of Modbus RTU, and a frame that ends in its own.
 -- The definitions take lists of any numbers; the CRC takes the byte in each.
 use Rattle.std.specs.Prelude.{List, [], ◌∷◌, ◌++◌, Bool, cond, ◌&&◌, ℕ, zero, suc, ◌-◌, ◌/◌, ◌%◌, leb, eqb, length, take, drop}
 use Rattle.std.specs.Int.Bits.{bit_xor}

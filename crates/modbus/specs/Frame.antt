@@ -1,10 +1,13 @@
--- Document 01, "Frames", with document 02, L3: our unit, the fields of a request, a read reply, an exception, and a frame in a reply
--- buffer.
-use Rattle.std.specs.Prelude.{List, [], ◌∷◌, ◌≡◌, Bool, cond, ℕ, ◌+◌, ltb, length, get_or}
+-- Our unit, the fields of a request, the functions, a read reply, an exception, and a frame in a reply buffer.
+use Rattle.std.specs.Prelude.{List, [], ◌∷◌, ◌≡◌, Bool, cond, ℕ, ◌+◌, eqb, ltb, length, get_or, Result, Ok, Err}
 use Rattle.basics.specs.Lists.{pasted}
 use Rattle.basics.specs.Numbers.{within}
 use Rattle.modbus.specs.Crc.{with_crc}
 use Rattle.modbus.specs.Word.{word_at}
+use Rattle.modbus.specs.declared.frame.Function.{Function}
+use Rattle.modbus.specs.declared.frame.Function.TheVariants.{ReadFlags, Read, Write}
+use Rattle.modbus.specs.declared.frame.Exception.{Exception}
+use Rattle.modbus.specs.declared.frame.Exception.TheVariants.{IllegalFunction, IllegalAddress, IllegalValue}
 
 -- our unit is 1-247
 abbrev pub good_unit : ℕ → Bool
@@ -39,6 +42,24 @@ illegal_address = 2
 
 abbrev pub illegal_value : ℕ
 illegal_value = 3
+
+abbrev pub code_of : Exception → ℕ
+code_of IllegalFunction = illegal_function
+code_of IllegalAddress = illegal_address
+code_of IllegalValue = illegal_value
+
+-- ---- the functions that a gateway knows: 01 reads flags, 03 all else, 06 writes a requested number; another is exception 01
+abbrev pub number_of : Function → ℕ
+number_of ReadFlags = 1
+number_of Read = 3
+number_of Write = 6
+
+abbrev pub function_by : ℕ → Result Function Exception
+function_by number =
+    cond (eqb number 1) (Ok ReadFlags)
+    (cond (eqb number 3) (Ok Read)
+    (cond (eqb number 6) (Ok Write)
+    (Err IllegalFunction)))
 
 -- a function with its highest bit set; 81 hex stays 81 hex
 unfoldable pub high_bit_set : ℕ → ℕ

@@ -1,4 +1,4 @@
--- Document 01, first paragraph: in frames and layouts numbers go high byte first. A word is a number of 16 bits.
+-- In frames and layouts numbers go high byte first. A word is a number of 16 bits.
 use Rattle.std.specs.Prelude.{List, [], ◌∷◌, ℕ, ◌+◌, ◌*◌, ◌/◌, ◌%◌, get_or}
 
 -- the two bytes of a word

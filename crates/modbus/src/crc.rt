@@ -1,4 +1,4 @@
-// The CRC-16 of document 01, "Frames", a byte at a time by a table (document 02, L7).
+// The CRC-16 of Modbus RTU, a byte at a time by a table.
 ghost use Rattle.std.specs.Prelude.{◌≡◌};
 ghost use Rattle.modbus.specs.Crc.{crc_of, ends_in_crc};
 
@@ -14,31 +14,21 @@ pub fn crc_of(s: &[u8]) -> u16
     let steps = CRC_STEPS;
     let mut low: usize = 0xFF;
     let mut high: usize = 0xFF;
-    let mut i: usize = 0;
-    while i < s.len() {
-        let k = low ^ (s[i] as usize);
-        let step = steps[k] as usize;
+    for byte in s {
+        let step = usize::from(steps[low ^ usize::from(*byte)]);
         low = high ^ (step % 256);
         high = step / 256;
-        i += 1;
     }
     (high * 256 + low) as u16
 }
 
-// Whether a frame of any length ends in the CRC of what is before, low byte first.
+// Whether a frame of any length ends in the CRC of what is before, low byte first; one of 0 or 1 bytes does not.
 #[tactic(auto, unfolding(crate::specs::Crc::ends_in_crc))]
 pub fn ends_in_crc(frame: &[u8]) -> bool
     ensures { result ≡ ends_in_crc frame.now }
 {
-    let n = frame.len();
-    if n < 2 {
-        return false;
+    match frame {
+        [body @ .., low, high] => [*low, *high] == crc_of(body).to_le_bytes(),
+        _ => false,
     }
-    let sum = crc_of(&frame[..n - 2]);
-    let low = (sum % 256) as u8;
-    let high = (sum / 256) as u8;
-    if frame[n - 2] != low {
-        return false;
-    }
-    frame[n - 1] == high
 }

@@ -1,5 +1,5 @@
-// The CRC's steps, for the frame check by table (document 02, L7): entry k is k shifted eight times by the bit rule of document 01,
-// "Frames". The proof of `crc::crc_of` tests all entries by that rule.
+// The CRC's steps, for the frame check by table: entry k is k shifted eight times to the right, and A001 hex exclusive-ored in for each
+// 1 that is lost there. The proof of `crc::crc_of` tests all entries by that rule.
 pub const CRC_STEPS: [u16; 256] = [
     0x0000, 0xC0C1, 0xC181, 0x0140, 0xC301, 0x03C0, 0x0280, 0xC241, 0xC601, 0x06C0, 0x0780, 0xC741,
     0x0500, 0xC5C1, 0xC481, 0x0440, 0xCC01, 0x0CC0, 0x0D80, 0xCD41, 0x0F00, 0xCFC1, 0xCE81, 0x0E40,

@@ -1,4 +1,4 @@
-// Frames of Modbus RTU, document 01, "Frames", built where they are sent from: at the start of a lent reply buffer.
+// Frames of Modbus RTU, built where they are sent from: at the start of a lent reply buffer.
 ghost use Rattle.std.specs.Prelude.{◌≡◌, ◌+◌, ◌≤◌, length, take, drop};
 ghost use Rattle.basics.specs.Lists.{pasted};
 ghost use Rattle.modbus.specs.Crc.{with_crc};
@@ -6,28 +6,73 @@ ghost use Rattle.modbus.specs.Frame.{read_reply_by, high_bit_set, exception_repl
 
 use crate::crc::crc_of;
 
-// The functions that a gateway knows: flags read, all else read, a requested number written.
-pub const READ_FLAGS: u8 = 1;
+// The functions that a gateway knows.
+#[derive(Clone, Copy, Debug, PartialEq, Eq)]
+pub enum Function {
+    // flags read
+    ReadFlags = 1,
+    // all else read
+    Read = 3,
+    // a requested number written
+    Write = 6,
+}
 
-pub const READ: u8 = 3;
+impl From<Function> for u8 {
+    ghost use Rattle.std.specs.Prelude.{◌≡◌};
+    ghost use Rattle.modbus.specs.Frame.{number_of};
 
-pub const WRITE: u8 = 6;
+    ghost from_gives = { λ function number. number ≡ number_of function };
 
-// The codes of exceptions, by their names in the Modbus standard.
-pub const ILLEGAL_FUNCTION: u8 = 1;
+    fn from(function: Function) -> u8 {
+        function as u8
+    }
+}
 
-pub const ILLEGAL_ADDRESS: u8 = 2;
+impl TryFrom<u8> for Function {
+    type Error = Exception;
 
-pub const ILLEGAL_VALUE: u8 = 3;
+    ghost use Rattle.std.specs.Prelude.{◌≡◌};
+    ghost use Rattle.modbus.specs.Frame.{function_by};
+
+    ghost try_from_gives = { λ number result. result ≡ function_by number };
+
+    fn try_from(number: u8) -> Result<Function, Exception> {
+        match number {
+            1 => Ok(Function::ReadFlags),
+            3 => Ok(Function::Read),
+            6 => Ok(Function::Write),
+            _ => Err(Exception::IllegalFunction),
+        }
+    }
+}
+
+// Why a request is refused, by its name in the Modbus standard.
+#[derive(Clone, Copy, Debug, PartialEq, Eq)]
+pub enum Exception {
+    IllegalFunction = 1,
+    IllegalAddress = 2,
+    IllegalValue = 3,
+}
+
+impl From<Exception> for u8 {
+    ghost use Rattle.std.specs.Prelude.{◌≡◌};
+    ghost use Rattle.modbus.specs.Frame.{code_of};
+
+    ghost from_gives = { λ exception code. code ≡ code_of exception };
+
+    fn from(exception: Exception) -> u8 {
+        exception as u8
+    }
+}
 
 // Puts the CRC of a frame's first n bytes behind them, low byte first.
+#[tactic(auto, using(crate::proofs::Laws::crc_behind))]
 fn write_crc(buffer: &mut [u8], n: usize)
     requires { n + 2 ≤ length buffer.old }
     ensures { buffer.new ≡ pasted buffer.old 0 (with_crc (take n buffer.old)) }
 {
     let sum = crc_of(&buffer[..n]);
-    buffer[n] = (sum % 256) as u8;
-    buffer[n + 1] = (sum / 256) as u8;
+    buffer[n..n + 2].copy_from_slice(&sum.to_le_bytes());
 }
 
 // Makes a read reply of the bytes that stand from byte 3 on, and answers its length. It carries the function that asked.
@@ -44,14 +89,11 @@ pub fn close_read_reply(buffer: &mut [u8], unit: u8, function: u8, size: usize) 
 }
 
 // A function with its highest bit set.
-#[tactic(auto, unfolding(crate::specs::Frame::high_bit_set))]
+#[tactic(auto, using(crate::proofs::Laws::high_bit_or))]
 fn high_bit_set(function: u8) -> u8
     ensures { result ≡ high_bit_set function }
 {
-    if function < 0x80 {
-        return function + 0x80;
-    }
-    function
+    function | 0x80
 }
 
 // Writes an exception, and answers its length.

@@ -8,7 +8,7 @@ pub fn word_at(s: &[u8], i: usize) -> u16
     requires { i + 2 ≤ length s.now }
     ensures { result ≡ word_at s.now i }
 {
-    (s[i] as u16) * 256 + (s[i + 1] as u16)
+    u16::from_be_bytes([s[i], s[i + 1]])
 }
 
 // Writes a word's two bytes from place i; every other byte stays.
@@ -16,6 +16,5 @@ pub fn put_word(s: &mut [u8], i: usize, w: u16)
     requires { i + 2 ≤ length s.old }
     ensures { s.new ≡ pasted s.old i (word_bytes w) }
 {
-    s[i] = (w / 256) as u8;
-    s[i + 1] = (w % 256) as u8;
+    s[i..i + 2].copy_from_slice(&w.to_be_bytes());
 }

@@ -1,5 +1,4 @@
 -- Laws of the table's lookup and of groups. Assumes nothing.
---     row_here, row-past    the lookup from row i on, by the test on row i
 --     lookup-sound          what a computed test says of every row holds of the row that the lookup gives
 --     boolean-inside, boolean-is, float-inside, float_is    a point that is a Boolean or 0, or a float or 0, and is not 0: its bounds and its row
 --     boolean_row_lem, boolean-found, boolean_point_lem    a Boolean point and its row
@@ -24,22 +23,13 @@ use Rattle.basics.proofs.Tests.{and_left, and_right}
 use Rattle.points.specs.declared.table.Kind.{Kind}
 use Rattle.points.specs.declared.table.Kind.TheVariants.{Boolean, Int16, Text8, Int32, Float, Text16}
 use Rattle.points.specs.declared.table.Row.{Row}
-use Rattle.points.specs.declared.table.Found.{Found}
-use Rattle.points.specs.declared.table.Found.TheVariants.{In, Nowhere}
+use Rattle.std.specs.Prelude.{Option, Some, None, Result, Ok, Err, find}
+use Rattle.basics.specs.declared.card.Refusal.TheVariants as refusal
+use Rattle.basics.specs.Card.{card_told}
 use Rattle.points.specs.declared.groups.Group.{Group}
 use Rattle.points.specs.declared.groups.Group.TheVariants.{Unused, Points, Bad}
-use Rattle.points.specs.declared.groups.Judged.TheVariants.{Good, BadGroup, Long}
-use Rattle.points.specs.Table.{table_bytes, rows, in_row, row_in, row_of, points_size, boolean_row, float_row, boolean_point, boolean_points, in_row_or_none, boolean_or_none, float_or_none}
+use Rattle.points.specs.Table.{table_bytes, rows, in_row, row_of, points_size, boolean_row, float_row, boolean_point, boolean_points, in_row_or_none, boolean_or_none, float_or_none}
 use Rattle.points.specs.Groups.{unused, ends_in_row, points_from, group_of, group_size, is_bad, first_point_at, count_at, group_at, groups_size, first_bad, record_size, judged, judged_card, ZeroFrom}
-use Rattle.points.specs.Card.{card_of}
-
-pub row_here : (rs : List Row) (i p : ℕ) (d : Row) → i < length rs → in_row (get_or rs i d) p ≡ true → row_in (drop i rs) p ≡ In (get_or rs i d)
-unfolding row_in
-row_here rs i p d h t = rw (drop-cons rs i d h, t)
-
-pub row-past : (rs : List Row) (i p : ℕ) (d : Row) → i < length rs → in_row (get_or rs i d) p ≡ false → row_in (drop i rs) p ≡ row_in (drop (suc i) rs) p
-unfolding row_in
-row-past rs i p d h t = rw (drop-cons rs i d h, t)
 
 -- a test passes at every row of a list
 abbrev pub every_row : (Row → Bool) → List Row → Bool
@@ -47,12 +37,11 @@ every_row f [] = true
 every_row f (r ∷ rs) = f r && every_row f rs
 
 module _ (f : Row → Bool) (p : ℕ) (r : Row) where
-  found_in : (rs : List Row) → every_row f rs ≡ true → row_in rs p ≡ In r → (f r ≡ true) × (in_row r p ≡ true)
-  unfolding row_in
+  found_in : (rs : List Row) → every_row f rs ≡ true → find (λ y. in_row y p) rs ≡ Some r → (f r ≡ true) × (in_row r p ≡ true)
   found_in [] a e = let z : ◌≡◌ {A = ℕ} 0 1 = cc in absurd (omega arith)
   found_in (x ∷ rs) a e = go (in_row x p) refl e (λ e'. found_in rs (and_right (f x) (every_row f rs) a) e')
     where
-      go : (b : Bool) → in_row x p ≡ b → cond b (In x) (row_in rs p) ≡ In r → (row_in rs p ≡ In r → (f r ≡ true) × (in_row r p ≡ true)) → (f r ≡ true) × (in_row r p ≡ true)
+      go : (b : Bool) → in_row x p ≡ b → cond b (Some x) (find (λ y. in_row y p) rs) ≡ Some r → (find (λ y. in_row y p) rs ≡ Some r → (f r ≡ true) × (in_row r p ≡ true)) → (f r ≡ true) × (in_row r p ≡ true)
       go true h q later = let same : x ≡ r = cc in (subst (λ y. f y ≡ true) same (and_left (f x) (every_row f rs) a), subst (λ y. in_row y p ≡ true) same h)
       go false h q later = later q
 
@@ -67,7 +56,7 @@ pub record Looked (r : Row) (p : ℕ) : Type 0 where
   pub small : r.size ≤ 16
   pub within : r.offset + points_size r (r.last + 1 - r.first) ≤ table_bytes
 
-pub lookup-sound : (p : ℕ) (r : Row) → row_of p ≡ In r → Looked r p
+pub lookup-sound : (p : ℕ) (r : Row) → row_of p ≡ Some r → Looked r p
 unfolding row_of in_row rows points_size
 lookup-sound p r e =
     let both = found_in row_sound p r rows refl e in
@@ -103,7 +92,7 @@ kind_size Int32 = 4
 kind_size Float = 4
 kind_size Text16 = 16
 
-pub lookup-size : (p : ℕ) (r : Row) → row_of p ≡ In r → r.size ≡ kind_size r.kind
+pub lookup-size : (p : ℕ) (r : Row) → row_of p ≡ Some r → r.size ≡ kind_size r.kind
 unfolding row_of rows
 lookup-size p r e = eqb-true _ _ (found_in (λ x. eqb x.size (kind_size x.kind)) p r rows refl e).0
 
@@ -114,20 +103,20 @@ pub record Grouped (r : Row) (p n : ℕ) : Type 0 where
   pub ends : p + n ≤ r.last + 1
 
 -- the row of a group of points is the one that the lookup gives; there is a point, and they end in the row
-pub group-inside : (p n : ℕ) (r : Row) → group_of p n ≡ Points r → (row_of p ≡ In r) × ((leb 1 n && ends_in_row r p n) ≡ true)
+pub group-inside : (p n : ℕ) (r : Row) → group_of p n ≡ Points r → (row_of p ≡ Some r) × ((leb 1 n && ends_in_row r p n) ≡ true)
 unfolding group_of
 group-inside p n r e = go (unused p n) e
   where
-    inside : (x : Row) → row_of p ≡ In x → (b : Bool) → (leb 1 n && ends_in_row x p n) ≡ b → cond b (Points x) Bad ≡ Points r →
-        (row_of p ≡ In r) × ((leb 1 n && ends_in_row r p n) ≡ true)
-    inside x f true t q = let same : x ≡ r = cc in subst (λ y. (row_of p ≡ In y) × ((leb 1 n && ends_in_row y p n) ≡ true)) same (f, t)
+    inside : (x : Row) → row_of p ≡ Some x → (b : Bool) → (leb 1 n && ends_in_row x p n) ≡ b → cond b (Points x) Bad ≡ Points r →
+        (row_of p ≡ Some r) × ((leb 1 n && ends_in_row r p n) ≡ true)
+    inside x f true t q = let same : x ≡ r = cc in subst (λ y. (row_of p ≡ Some y) × ((leb 1 n && ends_in_row y p n) ≡ true)) same (f, t)
     inside x f false t q = let z : ◌≡◌ {A = ℕ} 0 1 = cc in absurd (omega arith)
 
-    looked : (f : Found) → row_of p ≡ f → points_from f p n ≡ Points r → (row_of p ≡ In r) × ((leb 1 n && ends_in_row r p n) ≡ true)
-    looked Nowhere f q = let z : ◌≡◌ {A = ℕ} 0 1 = cc in absurd (omega arith)
-    looked (In x) f q = inside x f (leb 1 n && ends_in_row x p n) refl q
+    looked : (f : Option Row) → row_of p ≡ f → points_from f p n ≡ Points r → (row_of p ≡ Some r) × ((leb 1 n && ends_in_row r p n) ≡ true)
+    looked None f q = let z : ◌≡◌ {A = ℕ} 0 1 = cc in absurd (omega arith)
+    looked (Some x) f q = inside x f (leb 1 n && ends_in_row x p n) refl q
 
-    go : (b : Bool) → cond b Unused (points_from (row_of p) p n) ≡ Points r → (row_of p ≡ In r) × ((leb 1 n && ends_in_row r p n) ≡ true)
+    go : (b : Bool) → cond b Unused (points_from (row_of p) p n) ≡ Points r → (row_of p ≡ Some r) × ((leb 1 n && ends_in_row r p n) ≡ true)
     go true q = let z : ◌≡◌ {A = ℕ} 0 1 = cc in absurd (omega arith)
     go false q = looked (row_of p) refl q
 
@@ -185,7 +174,7 @@ flags-within r p n i e bits more =
     omega (arith, ok.looked.from, ok.ends, room)
 
 -- points of a row, at least one and none past its end, are a group
-pub group-of-run : (p n : ℕ) (r : Row) → row_of p ≡ In r → 1 ≤ n → ends_in_row r p n ≡ true → group_of p n ≡ Points r
+pub group-of-run : (p n : ℕ) (r : Row) → row_of p ≡ Some r → 1 ≤ n → ends_in_row r p n ≡ true → group_of p n ≡ Points r
 unfolding group_of unused
 group-of-run p n r e some ends =
     let ok = lookup-sound p r e in
@@ -193,7 +182,7 @@ group-of-run p n r e some ends =
     simp (used, e, le-leb 1 n some, ends)
 
 -- a point of a row is a group of one
-pub group-of-one : (p : ℕ) (r : Row) → row_of p ≡ In r → group_of p 1 ≡ Points r
+pub group-of-one : (p : ℕ) (r : Row) → row_of p ≡ Some r → group_of p 1 ≡ Points r
 unfolding ends_in_row
 group-of-one p r e = group-of-run p 1 r e (omega arith) (le-leb (p + 1) (r.last + 1) (omega (arith, (lookup-sound p r e).to)))
 
@@ -210,15 +199,15 @@ pub boolean-inside : (p : ℕ) → boolean_or_none p ≡ true → (p ≡ 0 → �
 unfolding boolean_or_none
 boolean-inside p ok some = in_row_lem boolean_row p ok some
 
-boolean-looked : (p : ℕ) → 1801 ≤ p → p ≤ 1928 → row_of p ≡ In boolean_row
-unfolding row_of row_in rows in_row
+boolean-looked : (p : ℕ) → 1801 ≤ p → p ≤ 1928 → row_of p ≡ Some boolean_row
+unfolding row_of rows in_row
 boolean-looked p from to = simp (le-leb 1801 p from, le-leb p 1928 to)
 
-pub boolean-is : (p : ℕ) → boolean_or_none p ≡ true → (p ≡ 0 → ⊥) → row_of p ≡ In boolean_row
+pub boolean-is : (p : ℕ) → boolean_or_none p ≡ true → (p ≡ 0 → ⊥) → row_of p ≡ Some boolean_row
 boolean-is p ok some = let inside = boolean-inside p ok some in boolean-looked p inside.0 inside.1
 
 -- a Boolean point is in the row that starts with the table, and is one of its 128
-pub boolean_row_lem : (p : ℕ) (r : Row) → boolean_or_none p ≡ true → row_of p ≡ In r →
+pub boolean_row_lem : (p : ℕ) (r : Row) → boolean_or_none p ≡ true → row_of p ≡ Some r →
     (r.offset ≡ 0) × (r.first ≤ p) × (p - r.first < boolean_points)
 boolean_row_lem p r ok e =
     let seen = lookup-sound p r e in
@@ -229,7 +218,7 @@ boolean_row_lem p r ok e =
     subst (λ x. (x.offset ≡ 0) × (x.first ≤ p) × (p - x.first < boolean_points)) same (refl, inside.0, omega (arith, inside.0, inside.1))
 
 -- Boolean number i is in it
-pub boolean-found : (i : ℕ) → i < boolean_points → row_of (boolean_point i) ≡ In boolean_row
+pub boolean-found : (i : ℕ) → i < boolean_points → row_of (boolean_point i) ≡ Some boolean_row
 boolean-found i below = boolean-looked (boolean_point i) (omega (arith, below)) (omega (arith, below))
 
 pub boolean_point_lem : (i : ℕ) → i < boolean_points → boolean_or_none (boolean_point i) ≡ true
@@ -251,8 +240,8 @@ behind r p after = rw (lt-leb p r.last after) (go (leb r.first p))
     go true = refl
     go false = refl
 
-pub float_is : (p : ℕ) → float_or_none p ≡ true → (p ≡ 0 → ⊥) → row_of p ≡ In float_row
-unfolding row_of row_in rows float_or_none
+pub float_is : (p : ℕ) → float_or_none p ≡ true → (p ≡ 0 → ⊥) → row_of p ≡ Some float_row
+unfolding row_of rows float_or_none
 float_is p ok some =
     let from = (float-inside p ok some).0 in
     let here : in_row float_row p ≡ true = simp (ne_eqb p 0 some) at ok in
@@ -301,13 +290,13 @@ pub record GoodDefinition (gs : List ℕ) (size : ℕ) : Type 0 where
   pub most : size ≤ 250
 
 -- a definition that the card does not refuse is good, with its record's size
-pub judged-done : (gs : List ℕ) → (judged_card gs).number ≡ 0 → (judged gs ≡ Good (record_size gs)) × GoodDefinition gs (record_size gs)
+pub judged-done : (gs : List ℕ) → (judged_card gs).number ≡ 0 → (judged gs ≡ Ok (record_size gs)) × GoodDefinition gs (record_size gs)
 unfolding judged record_size
 judged-done gs done = go (eqb (length gs) 32) (ltb 0 (first_bad gs 16)) (ltb 250 (6 + groups_size gs 16)) refl refl refl done
   where
     go : (b c d : Bool) → eqb (length gs) 32 ≡ b → ltb 0 (first_bad gs 16) ≡ c → ltb 250 (6 + groups_size gs 16) ≡ d
-        → (card_of (cond (not b) (BadGroup 0) (cond c (BadGroup (first_bad gs 16)) (cond d Long (Good (6 + groups_size gs 16)))))).number ≡ 0
-        → (cond (not b) (BadGroup 0) (cond c (BadGroup (first_bad gs 16)) (cond d Long (Good (6 + groups_size gs 16)))) ≡ Good (6 + groups_size gs 16)) × GoodDefinition gs (6 + groups_size gs 16)
+        → (card_told (cond (not b) (Err (refusal.Group 0)) (cond c (Err (refusal.Group (first_bad gs 16))) (cond d (Err refusal.Long) (Ok (6 + groups_size gs 16)))))).number ≡ 0
+        → (cond (not b) (Err (refusal.Group 0)) (cond c (Err (refusal.Group (first_bad gs 16))) (cond d (Err refusal.Long) (Ok (6 + groups_size gs 16)))) ≡ Ok (6 + groups_size gs 16)) × GoodDefinition gs (6 + groups_size gs 16)
     go false c d long bad over q = absurd (omega arith)
     go true true d long bad over q = absurd (omega arith)
     go true false true long bad over q = absurd (omega arith)
@@ -316,16 +305,16 @@ judged-done gs done = go (eqb (length gs) 32) (ltb 0 (first_bad gs 16)) (ltb 250
         let fits = ltb-false 250 (6 + groups_size gs 16) over in
         (refl, record { list = eqb-true (length gs) 32 long; none = omega arith; sized = refl; least = omega arith; most = omega arith })
 
-pub judged-good : (gs : List ℕ) (size : ℕ) → judged gs ≡ Good size → GoodDefinition gs size
+pub judged-good : (gs : List ℕ) (size : ℕ) → judged gs ≡ Ok size → GoodDefinition gs size
 judged-good gs size is =
-    let both = judged-done gs (ap (λ j. (card_of j).number) is) in
+    let both = judged-done gs (ap (λ j. (card_told j).number) is) in
     let same : record_size gs ≡ size = cc (both.0, is) in
     subst (λ n. GoodDefinition gs n) same both.1
 
 -- ---- the places that are not walked
-pub rest-zero : (gs : List ℕ) (k : ℕ) → ZeroFrom (take (length gs - k) (drop k gs)) 0 → ZeroFrom gs k
-rest-zero gs k none i behind =
-    let all : take (length gs - k) (drop k gs) ≡ drop k gs = take_all (length gs - k) (drop k gs) (omega (arith, length-drop k gs)) in
+pub rest-zero : (gs : List ℕ) (k n : ℕ) → length gs ≡ k + n → ZeroFrom (take n (drop k gs)) 0 → ZeroFrom gs k
+rest-zero gs k n long none i behind =
+    let all : take n (drop k gs) ≡ drop k gs = take_all n (drop k gs) (omega (arith, length-drop k gs)) in
     let here : k + (i - k) ≡ i = omega (arith, behind) in
     ap (λ j. get_or gs j 0) (sym here) ∙ sym (get_or-drop k gs (i - k) 0) ∙ ap (λ l. get_or l (i - k) 0) (sym all) ∙ none (i - k) (omega arith)
 

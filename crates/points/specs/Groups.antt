@@ -1,16 +1,13 @@
--- Document 01, "Records": the 16 groups of a file, and the size of its record.
+-- The 16 groups of a file, and the size of its record.
 -- A definition is 32 numbers: a first point and a number of points for each of the 16 places.
-use Rattle.std.specs.Prelude.{List, ◌≡◌, Bool, cond, not, ◌&&◌, ℕ, zero, suc, ◌+◌, ◌*◌, ◌≤◌, leb, ltb, eqb, length, get_or}
-use Rattle.basics.specs.Card.{Card, first_of}
+use Rattle.std.specs.Prelude.{List, Option, Some, None, Result, Ok, Err, ◌≡◌, Bool, cond, not, ◌&&◌, ℕ, zero, suc, ◌+◌, ◌*◌, ◌≤◌, leb, ltb, eqb, length, get_or}
+use Rattle.basics.specs.declared.card.Refusal.{Refusal}
+use Rattle.basics.specs.declared.card.Refusal.TheVariants as refusal
+use Rattle.basics.specs.Card.{Card, card_told, first_of}
 use Rattle.points.specs.declared.table.Row.{Row}
-use Rattle.points.specs.declared.table.Found.{Found}
-use Rattle.points.specs.declared.table.Found.TheVariants.{In, Nowhere}
 use Rattle.points.specs.declared.groups.Group.{Group}
 use Rattle.points.specs.declared.groups.Group.TheVariants.{Unused, Points, Bad}
-use Rattle.points.specs.declared.groups.Judged.{Judged}
-use Rattle.points.specs.declared.groups.Judged.TheVariants.{Good, BadGroup, Long}
 use Rattle.points.specs.Table.{row_of, points_size}
-use Rattle.points.specs.Card.{card_of}
 
 -- (0, 0) is unused
 unfoldable pub unused : ℕ → ℕ → Bool
@@ -21,9 +18,9 @@ unfoldable pub ends_in_row : Row → ℕ → ℕ → Bool
 ends_in_row r p n = leb (p + n) (r.last + 1)
 
 -- n points from p on, where the row of p has been looked up: at least one, all in that row
-abbrev pub points_from : Found → ℕ → ℕ → Group
-points_from Nowhere p n = Bad
-points_from (In r) p n = cond (leb 1 n && ends_in_row r p n) (Points r) Bad
+abbrev pub points_from : Option Row → ℕ → ℕ → Group
+points_from None p n = Bad
+points_from (Some r) p n = cond (leb 1 n && ends_in_row r p n) (Points r) Bad
 
 -- what a group is: unused, or points that are all in one row, or bad
 unfoldable pub group_of : ℕ → ℕ → Group
@@ -66,16 +63,16 @@ record_size gs = 6 + groups_size gs 16
 
 -- a definition judged: the first bad group, or 0 for the reading end's list that is not of 32 numbers; over 250 bytes; else good,
 -- with the record's size
-unfoldable pub judged : List ℕ → Judged
+unfoldable pub judged : List ℕ → Result ℕ Refusal
 judged gs =
-    cond (not (eqb (length gs) 32)) (BadGroup 0)
-    (cond (ltb 0 (first_bad gs 16)) (BadGroup (first_bad gs 16))
-    (cond (ltb 250 (record_size gs)) Long
-    (Good (record_size gs))))
+    cond (not (eqb (length gs) 32)) (Err (refusal.Group 0))
+    (cond (ltb 0 (first_bad gs 16)) (Err (refusal.Group (first_bad gs 16)))
+    (cond (ltb 250 (record_size gs)) (Err refusal.Long)
+    (Ok (record_size gs))))
 
 -- the same on the service card: Group (7), Long (8) or done
 abbrev pub judged_card : List ℕ → Card
-judged_card gs = card_of (judged gs)
+judged_card gs = card_told (judged gs)
 
 -- ---- what the code's walk asks: every number from place k of a list on is 0
 abbrev pub ZeroFrom : List ℕ → ℕ → Type 0

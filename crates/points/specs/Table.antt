@@ -1,10 +1,8 @@
--- Document 01, "Live table": the six rows, which row holds a point, and where a point's value stands.
-use Rattle.std.specs.Prelude.{List, [], ◌∷◌, Bool, cond, ◌||◌, ℕ, ◌+◌, ◌-◌, ◌*◌, ◌/◌, ◌%◌, ◌^◌, eqb, get_or}
+-- The live table: its six rows, which row holds a point, and where a point's value stands.
+use Rattle.std.specs.Prelude.{List, [], ◌∷◌, Option, find, Bool, cond, ◌||◌, ℕ, ◌+◌, ◌-◌, ◌*◌, ◌/◌, ◌%◌, ◌^◌, eqb, get_or}
 use Rattle.basics.specs.Numbers.{within}
 use Rattle.points.specs.declared.table.Kind.TheVariants.{Boolean, Int16, Text8, Int32, Float, Text16}
 use Rattle.points.specs.declared.table.Row.{Row}
-use Rattle.points.specs.declared.table.Found.{Found}
-use Rattle.points.specs.declared.table.Found.TheVariants.{In, Nowhere}
 
 -- the live table's bytes
 abbrev pub table_bytes : ℕ
@@ -32,14 +30,9 @@ rows =
 unfoldable pub in_row : Row → ℕ → Bool
 in_row r p = within r.first r.last p
 
--- the row of a list that holds point p, the first where there are several
-unfoldable pub row_in : List Row → ℕ → Found
-row_in [] p = Nowhere
-row_in (r ∷ rs) p = cond (in_row r p) (In r) (row_in rs p)
-
 -- the row that holds point p
-unfoldable pub row_of : ℕ → Found
-row_of p = row_in rows p
+unfoldable pub row_of : ℕ → Option Row
+row_of p = find (λ r. in_row r p) rows
 
 -- a row's points are single bits
 abbrev pub is_bits : Row → Bool

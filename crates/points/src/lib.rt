@@ -4,5 +4,5 @@
 pub mod groups;
 pub mod table;
 
-pub use groups::{Group, Judged};
-pub use table::{Found, Kind, Row};
+pub use groups::Group;
+pub use table::{Kind, Row};

@@ -1,11 +1,10 @@
-// The six rows of the live table, document 01, "Live table".
+// The six rows of the live table.
 ghost use Rattle.std.specs.Prelude.{◌≡◌};
-ghost use Rattle.points.specs.Table.{in_row, in_row_or_none, row_of, points_size, boolean_or_none, float_or_none};
+ghost use Rattle.points.specs.Table.{in_row, row_of, points_size, boolean_or_none, float_or_none};
+ghost use Rattle.points.specs.Groups.{ends_in_row};
 
-use basics::is_within;
-
-// What a row's points are, as in source document 000.
-#[derive(Clone, Copy)]
+// What a row's points are.
+#[derive(Clone, Copy, Debug, PartialEq, Eq)]
 pub enum Kind {
     Boolean,
     Int16,
@@ -16,19 +15,13 @@ pub enum Kind {
 }
 
 // The points `first` to `last` take `size` bytes each, 0 standing for one bit, from byte `offset` of the table on.
-#[derive(Clone, Copy)]
+#[derive(Clone, Copy, Debug, PartialEq, Eq)]
 pub struct Row {
     pub kind: Kind,
     pub first: u16,
     pub last: u16,
     pub size: u16,
     pub offset: u16,
-}
-
-#[derive(Clone, Copy)]
-pub enum Found {
-    In(Row),
-    Nowhere,
 }
 
 // The live table's bytes.
@@ -87,75 +80,57 @@ const ROWS: [Row; 6] = [
     },
 ];
 
-// Whether a point is one of a row's.
-fn in_row(row: Row, point: u32) -> bool
-    ensures { result ≡ in_row row point }
-{
-    is_within(row.first as u32, row.last as u32, point)
-}
+impl Row {
+    // Whether a point is one of the row's. A point of 32 bits is not cut to 16.
+    #[tactic(auto, unfolding(crate::specs::Table::in_row))]
+    fn holds(&self, point: u32) -> bool
+        ensures { result ≡ in_row self.now point }
+    {
+        (u32::from(self.first) <= point) & (point <= u32::from(self.last))
+    }
 
-// Whether a point is one of a row's or 0. A point of 32 bits is not cut to 16.
-fn is_in_row_or_none(row: Row, point: u32) -> bool
-    ensures { result ≡ in_row_or_none row point }
-{
-    (point == 0) | in_row(row, point)
+    // The row that holds a point: the one lookup of the table.
+    #[tactic(auto, unfolding(crate::specs::Table::row_of, crate::specs::Table::rows))]
+    pub fn of(point: u16) -> Option<Row>
+        ensures { result ≡ row_of point }
+    {
+        let point = u32::from(point);
+        ROWS.iter().copied().find(|row| row.holds(point))
+    }
+
+    // Whether `count` points from a point of the row on end in it. The sums are wider than 16 bits.
+    #[tactic(auto, unfolding(crate::specs::Groups::ends_in_row))]
+    pub fn ends(self, point: u16, count: u16) -> bool
+        ensures { result ≡ ends_in_row self point count }
+    {
+        u32::from(point) + u32::from(count) <= u32::from(self.last) + 1
+    }
+
+    // The bytes that `count` points of the row take in a record.
+    #[tactic(auto, unfolding(crate::specs::Table::points_size))]
+    pub fn bytes(self, count: u16) -> usize
+        ensures { result ≡ points_size self count }
+    {
+        let n = usize::from(count);
+        if self.size == 0 {
+            return (n + 7) / 8;
+        }
+        n * usize::from(self.size)
+    }
 }
 
 // Whether a point is a Boolean or 0.
+#[tactic(auto, unfolding(crate::specs::Table::boolean_or_none))]
 pub fn is_boolean_or_none(point: u32) -> bool
     ensures { result ≡ boolean_or_none point }
 {
-    is_in_row_or_none(BOOLEAN_ROW, point)
+    (point == 0) | BOOLEAN_ROW.holds(point)
 }
 
 // Whether a point is a float or 0.
+#[tactic(auto, unfolding(crate::specs::Table::float_or_none))]
 pub fn is_float_or_none(point: u32) -> bool
     ensures { result ≡ float_or_none point }
 {
-    is_in_row_or_none(FLOAT_ROW, point)
-}
-
-// The row that holds a point: the one lookup of the table. Each row is asked by its number and not in a loop: with an index that
-// changes, the compiler builds the table on the stack.
-pub fn row_of(point: u16) -> Found
-    ensures { result ≡ row_of point }
-{
-    let rows = ROWS;
-    let p = point as u32;
-    let booleans = rows[0];
-    if in_row(booleans, p) {
-        return Found::In(booleans);
-    }
-    let short_ints = rows[1];
-    if in_row(short_ints, p) {
-        return Found::In(short_ints);
-    }
-    let short_texts = rows[2];
-    if in_row(short_texts, p) {
-        return Found::In(short_texts);
-    }
-    let long_ints = rows[3];
-    if in_row(long_ints, p) {
-        return Found::In(long_ints);
-    }
-    let floats = rows[4];
-    if in_row(floats, p) {
-        return Found::In(floats);
-    }
-    let long_texts = rows[5];
-    if in_row(long_texts, p) {
-        return Found::In(long_texts);
-    }
-    Found::Nowhere
-}
-
-// The bytes that `count` points of a row take in a record.
-pub fn points_size(row: Row, count: u16) -> usize
-    ensures { result ≡ points_size row count }
-{
-    let n = count as usize;
-    if row.size == 0 {
-        return (n + 7) / 8;
-    }
-    n * (row.size as usize)
+    (point == 0) | FLOAT_ROW.holds(point)
 }

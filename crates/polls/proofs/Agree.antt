@@ -2,23 +2,35 @@
 --     Agree             on unit, requested numbers, the live table, every file's n and pointer, and its records 1 to n
 --     asked-same        they are asked the same
 --     replies-same, requested-same    the reply, and what is left requested
-use mathlib.Core.Path.{◌≡◌, refl, ap, ap₂, ◌∙◌}
+--     laid_agrees, answers_laid, laid_lends    the view of files that are laid out agrees with that of their layout, and has what a poll is lent
+use mathlib.Core.Path.{◌≡◌, refl, ap, ap₂, ◌∙◌, subst}
 use mathlib.Core.List.{List, []}
 use mathlib.Core.Bool.{Bool, true, false, cond, not, ◌&&◌, ◌||◌}
 use Prim.Native.Nat.{ℕ, ◌-◌, ◌/◌, ◌%◌, ◌≤◌, ◌<◌}
 use native.Mathlib.Omega.{arith}
 use lib.Dec.{eqb}
-use lib.ListN.{length, get_or, take}
+use lib.ListN.{length, get_or}
 use Rattle.basics.proofs.Tests.{and_left}
-use Rattle.modbus.specs.Frame.{unit_of, function_of, address_of, quantity_of, read_reply, read_reply_by, exception_reply}
+use Rattle.modbus.specs.declared.frame.Function.{Function}
+use Rattle.modbus.specs.declared.frame.Function.TheVariants.{ReadFlags, Read, Write}
+use Rattle.modbus.specs.declared.frame.Exception.{Exception}
+use Rattle.modbus.specs.Frame.{unit_of, function_of, address_of, quantity_of, function_by, code_of, read_reply, read_reply_by, exception_reply}
 use Rattle.records.specs.Capture.{captured_points}
-use Rattle.archive.specs.Layout.{all_files}
+use Rattle.archive.specs.Layout.{Layout, all_files, good_files, layout_size}
+use Rattle.std.specs.Prelude.{Result, Ok, Err}
+use Rattle.polls.specs.declared.request.Part.TheVariants.{Whole, Stamp}
 use Rattle.polls.specs.declared.request.Asked.{Asked}
-use Rattle.polls.specs.declared.request.Asked.TheVariants.{Exception, WholeRecord, StampOnly, Registers, LivePoints, SetRequested}
-use Rattle.polls.specs.View.{View}
-use Rattle.polls.specs.Addresses.{on_file, file_at, all_registers, first_register, on_register, on_requested, record_asked, stamp_asked, number_asked, read_asked, write_asked}
-use Rattle.polls.specs.Frames.{is_heard, is_known, asked, register, reply_of, requested_by, asked_of, reply_to, requested_after}
-use Rattle.polls.specs.Lent.{Passed}
+use Rattle.polls.specs.declared.request.Asked.TheVariants.{Record, Registers, LivePoints, SetRequested}
+use Rattle.polls.specs.View.{View, archive_view, view_of}
+use Rattle.polls.specs.declared.view.View as code
+use Rattle.archive.specs.Ring.{record_in}
+use Rattle.archive.specs.Lent.{LaidOut}
+use Rattle.archive.specs.declared.layout.File.{File}
+use Rattle.archive.proofs.Layouts.{size-within, file-inside}
+use Rattle.modbus.specs.Frame.{Sent}
+use Rattle.polls.specs.Addresses.{on_file, file_at, all_registers, first_register, on_register, on_requested, record_asked, number_asked, read_asked, write_asked}
+use Rattle.polls.specs.Frames.{is_heard, asked_as, asked_by, asked, register, part_of, reply_of, requested_by, asked_of, reply_to, requested_after, Answers}
+use Rattle.polls.specs.Lent.{least_buffer, Passed, LentPoll}
 use Rattle.polls.proofs.Laws.{on_file_lem, on-registers, registers-by, asked-passed}
 
 pub record Agree (v w : View) : Type 0 where
@@ -39,10 +51,10 @@ module _ (limit limit' : ℕ → ℕ) (same : (f : ℕ) → f < all_files → li
   read_same : (requested : List ℕ) (a q : ℕ) → read_asked limit requested a q ≡ read_asked limit' requested a q
   unfolding read_asked
   read_same requested a q =
-      same_test (on_file 700 a) (λ is. let f = file_at 700 a in ap (λ n. record_asked n f (get_or requested f 0)) (same f (on_file_lem 700 a is)))
-      (λ _. same_test (on_file 720 a) (λ is. let f = file_at 720 a in ap (λ n. record_asked n f q) (same f (on_file_lem 720 a is)))
-      (λ _. same_test (on_file 750 a) (λ is. let f = file_at 750 a in ap (λ n. stamp_asked n f (get_or requested f 0)) (same f (on_file_lem 750 a is)))
-      (λ _. same_test (on_file 770 a) (λ is. let f = file_at 770 a in ap (λ n. stamp_asked n f q) (same f (on_file_lem 770 a is)))
+      same_test (on_file 700 a) (λ is. let f = file_at 700 a in ap (λ n. record_asked n f (get_or requested f 0) Whole) (same f (on_file_lem 700 a is)))
+      (λ _. same_test (on_file 720 a) (λ is. let f = file_at 720 a in ap (λ n. record_asked n f q Whole) (same f (on_file_lem 720 a is)))
+      (λ _. same_test (on_file 750 a) (λ is. let f = file_at 750 a in ap (λ n. record_asked n f (get_or requested f 0) Stamp) (same f (on_file_lem 750 a is)))
+      (λ _. same_test (on_file 770 a) (λ is. let f = file_at 770 a in ap (λ n. record_asked n f q Stamp) (same f (on_file_lem 770 a is)))
       (λ _. same_test (on_register a) (λ _. refl) (λ _. refl)))))
 
   write_same : (a x : ℕ) → write_asked limit a x ≡ write_asked limit' a x
@@ -52,14 +64,20 @@ module _ (limit limit' : ℕ → ℕ) (same : (f : ℕ) → f < all_files → li
       same_test (on_requested a)
       (λ is. ap (λ n. number_asked n f x) (same f (on-registers a (and_left (on_register a) (eqb ((a - first_register) % 3) 2) is)))) (λ _. refl)
 
+  as-same : (requested : List ℕ) (a q : ℕ) (function : Function) → asked_as limit requested a q function ≡ asked_as limit' requested a q function
+  as-same requested a q ReadFlags = refl
+  as-same requested a q Read = read_same requested a q
+  as-same requested a q Write = write_same a q
+
+  by-same : (requested frame : List ℕ) (function : Result Function Exception) →
+      asked_by limit requested frame function ≡ asked_by limit' requested frame function
+  by-same requested frame (Err exception) = refl
+  by-same requested frame (Ok function) =
+      same_test (not (eqb (length frame) 8)) (λ _. refl) (λ _. as-same requested (address_of frame) (quantity_of frame) function)
+
   pub asked-same : (requested frame : List ℕ) → asked limit requested frame ≡ asked limit' requested frame
   unfolding asked
-  asked-same requested frame =
-      same_test (not (is_known (function_of frame))) (λ _. refl)
-      (λ _. same_test (not (eqb (length frame) 8)) (λ _. refl)
-      (λ _. same_test (eqb (function_of frame) 1) (λ _. refl)
-      (λ _. same_test (eqb (function_of frame) 3) (λ _. read_same requested (address_of frame) (quantity_of frame))
-      (λ _. write_same (address_of frame) (quantity_of frame)))))
+  asked-same requested frame = by-same requested frame (function_by (function_of frame))
 
 -- ---- what is answered
 module _ (v w : View) (agree : Agree v w) where
@@ -70,18 +88,16 @@ module _ (v w : View) (agree : Agree v w) where
       same_test (eqb (i % 3) 0) (λ _. agree.limit (i / 3) f)
       (λ _. same_test (eqb (i % 3) 1) (λ _. agree.pointer (i / 3) f) (λ _. ap (λ l. get_or l (i / 3) 0) agree.requested))
 
-  answer-same : (frame : List ℕ) (a : Asked) → Passed v.limit a → reply_of v frame a ≡ reply_of w frame a
+  answer-same : (frame : List ℕ) (a : Result Asked Exception) → Passed v.limit a → reply_of v frame a ≡ reply_of w frame a
   unfolding reply_of
-  answer-same frame (Exception code) passed = ap (λ u. exception_reply u (function_of frame) code) agree.unit
-  answer-same frame (WholeRecord f k) passed =
-      ap₂ read_reply agree.unit (agree.reads f passed.file k passed.first passed.last)
-  answer-same frame (StampOnly f k) passed =
-      ap₂ (λ u bs. read_reply u (take 6 bs)) agree.unit (agree.reads f passed.file k passed.first passed.last)
-  answer-same frame (Registers i q) passed =
+  answer-same frame (Err exception) passed = ap (λ u. exception_reply u (function_of frame) (code_of exception)) agree.unit
+  answer-same frame (Ok (Record f k part)) passed =
+      ap₂ (λ u bs. read_reply u (part_of part bs)) agree.unit (agree.reads f passed.file k passed.first passed.last)
+  answer-same frame (Ok (Registers i q)) passed =
       ap₂ read_reply agree.unit (registers-by v w i q (λ j below. register-same j (omega (arith, below, passed))))
-  answer-same frame (LivePoints r p q) passed =
+  answer-same frame (Ok (LivePoints r p q)) passed =
       ap₂ (λ u t. read_reply_by u (function_of frame) (captured_points t r p q)) agree.unit agree.table
-  answer-same frame (SetRequested f x) passed = refl
+  answer-same frame (Ok (SetRequested f x)) passed = refl
 
   asks-same : (frame : List ℕ) → asked_of v frame ≡ asked_of w frame
   asks-same frame =
@@ -101,3 +117,39 @@ module _ (v w : View) (agree : Agree v w) where
     where
       left : ℕ → List ℕ → List ℕ → List ℕ
       left unit new old = cond (is_heard frame && (eqb (unit_of frame) unit || eqb (unit_of frame) 0)) new old
+
+-- ---- files that are laid out
+-- the code's view of them agrees with the view of their layout
+pub laid_agrees : (v : code.View) (l : Layout) → LaidOut l v.files.now →
+    Agree (view_of v) (archive_view v.unit l v.pointers.now v.requested.now v.archive.now v.table.now)
+laid_agrees v l laid =
+    record {
+      unit = refl;
+      limit = λ f below. ap (λ x. x.limit) (laid.each f below);
+      pointer = λ f below. refl;
+      requested = refl;
+      reads = λ f below k first last. ap (λ x. record_in v.archive.now x.from x.size k) (laid.each f below);
+      table = refl;
+    }
+
+pub answers_laid : (v : code.View) (l : Layout) (frame buffer : List ℕ) (told : ℕ) (buffer' requested' : List ℕ) → LaidOut l v.files.now →
+    Answers (view_of v) frame buffer told buffer' requested' →
+    Answers (archive_view v.unit l v.pointers.now v.requested.now v.archive.now v.table.now) frame buffer told buffer' requested'
+answers_laid v l frame buffer told buffer' requested' laid answers =
+    let agree = laid_agrees v l laid in
+    let w = archive_view v.unit l v.pointers.now v.requested.now v.archive.now v.table.now in
+    record {
+      sent = subst (λ r. Sent r buffer told buffer') (replies-same (view_of v) w agree frame) answers.sent;
+      asks = answers.asks ∙ requested-same (view_of v) w agree frame;
+    }
+
+-- and a poll is lent them, where they fit archive memory
+pub laid_lends : (l : Layout) (files : List File) (m buffer : List ℕ) → good_files l.groups ≡ true → LaidOut l files → layout_size l ≤ length m →
+    least_buffer ≤ length buffer → LentPoll files m buffer
+laid_lends l files m buffer good laid room buffered =
+    record {
+      fits = λ f below. rw (laid.each f below) (omega (arith, file-inside l f below, room));
+      stamped = λ f below. rw (laid.each f below) (size-within l f good).0;
+      short = λ f below. rw (laid.each f below) (size-within l f good).1;
+      buffered = buffered;
+    }

@@ -3,7 +3,8 @@
 --     asked-passed            what is asked has passed its checks
 --     length-registers, registers-by, registers-put    the bytes of registers: how many, by each, and one more in a reply buffer
 --     live-captured           the bytes of live points are those of a captured group
---     record-lent, sets-file  what a poll that is lent its parts lends its steps
+--     record_lent, sets-file  what a poll that is lent its parts lends its steps
+--     sent-within, part-sent  the part of a record that is sent: its size, and its bytes
 --     no-reply, replied, unasked, asked-for    a frame that is not answered, or is; that leaves what is requested, or sets it
 --     heard-long              the length of a frame that is heard
 --     requested-within        requested numbers stay within n
@@ -13,33 +14,38 @@ use mathlib.Core.Bool.{true, false, not, ◌&&◌, ◌||◌}
 use Prim.Native.Nat.{ℕ, zero, suc, ◌+◌, ◌-◌, ◌*◌, ◌/◌, ◌%◌, ◌≤◌, ◌<◌}
 use native.Mathlib.Numerals.{add-one}
 use native.Mathlib.Omega.{arith}
+use Rattle.std.specs.Prelude.{Option, Some, None, Result, Ok, Err}
 use borrow.Author.Tests.{leb-true, ltb-false, eqb-false, not-false}
 use lib.Dec.{eqb, ltb}
-use lib.ListN.{length, get_or, length-append}
+use lib.ListN.{length, get_or, take, length-append}
+use lib.Seq.{take-take}
 use Rattle.basics.specs.Lists.{pasted}
 use Rattle.basics.specs.Numbers.{within}
 use Rattle.basics.proofs.Lists.{pasted-append}
 use Rattle.basics.proofs.Tests.{by_cond, and_left, or_left, or_right, within-inside}
 use Rattle.modbus.specs.Word.{word_bytes}
 use Rattle.modbus.specs.Crc.{ends_in_crc}
-use Rattle.modbus.specs.Frame.{Sent, unit_of, function_of, address_of, quantity_of}
+use Rattle.modbus.specs.declared.frame.Function.{Function}
+use Rattle.modbus.specs.declared.frame.Function.TheVariants.{ReadFlags, Read, Write}
+use Rattle.modbus.specs.declared.frame.Exception.{Exception}
+use Rattle.modbus.specs.Frame.{Sent, unit_of, function_of, address_of, quantity_of, number_of, function_by}
 use Rattle.points.specs.declared.table.Row.{Row}
-use Rattle.points.specs.declared.table.Found.{Found}
-use Rattle.points.specs.declared.table.Found.TheVariants.{In, Nowhere}
 use Rattle.points.specs.Table.{row_of, points_size}
 use Rattle.points.specs.Groups.{ends_in_row, group_of}
 use Rattle.points.proofs.Laws.{group-of-run}
 use Rattle.records.specs.Capture.{captured_points, captured_group}
-use Rattle.archive.specs.Layout.{layout_from, all_files, limit_of, size_of, layout_size, has_room}
-use Rattle.archive.specs.Lent.{file_of}
-use Rattle.archive.proofs.Layouts.{size-within, file-inside}
+use Rattle.archive.specs.declared.layout.File.{File}
+use Rattle.archive.specs.Layout.{all_files}
+use Rattle.archive.specs.Lent.{file_in}
 use Rattle.archive.proofs.Scans.{set-within}
 use Rattle.polls.specs.declared.request.Asked.{Asked}
-use Rattle.polls.specs.declared.request.Asked.TheVariants.{Exception, WholeRecord, StampOnly, Registers, LivePoints, SetRequested}
-use Rattle.polls.specs.Addresses.{on_file, file_at, all_registers, first_register, on_register, on_requested, most_data, function_for, record_asked, stamp_asked, registers_asked, points_asked, number_asked, live_asked, read_asked, write_asked}
-use Rattle.polls.specs.View.{View}
-use Rattle.polls.specs.Frames.{is_heard, is_known, asked, register, register_bytes, reply_of, requested_by, asked_of, is_ours, reply_to, requested_after}
-use Rattle.polls.specs.Lent.{least_buffer, LentRecord, LentPoll, Numbered, PointRun, Passed, SetsFile}
+use Rattle.polls.specs.declared.request.Asked.TheVariants.{Record, Registers, LivePoints, SetRequested}
+use Rattle.polls.specs.declared.request.Part.{Part}
+use Rattle.polls.specs.declared.request.Part.TheVariants.{Whole, Stamp}
+use Rattle.polls.specs.Addresses.{on_file, file_at, all_registers, first_register, on_register, on_requested, most_data, function_for, record_asked, registers_asked, points_asked, number_asked, live_asked, read_asked, write_asked}
+use Rattle.polls.specs.View.{View, limit_in}
+use Rattle.polls.specs.Frames.{is_heard, asked_as, asked_by, asked, register, register_bytes, part_of, reply_of, requested_by, asked_of, is_ours, reply_to, requested_after}
+use Rattle.polls.specs.Lent.{least_buffer, LentRecord, LentPoll, Numbered, PointRun, Passed, SetsFile, sent_size}
 
 -- ---- addresses
 pub on_file_lem : (base a : ℕ) → on_file base a ≡ true → file_at base a < all_files
@@ -50,71 +56,72 @@ on-registers a is = let inside = within-inside 3701 3733 a is in omega arith
 
 -- ---- what is asked has passed its checks
 module _ (limit : ℕ → ℕ) where
-  abbrev Ok : Asked → Type 0
-  Ok = Passed limit
+  abbrev Fine : Result Asked Exception → Type 0
+  Fine = Passed limit
 
   -- a number of a file, asked for by any of the rows
-  number_passed : (f k : ℕ) → f < all_files → not (within 1 (limit f) k) ≡ false → Numbered limit f k
+  number_passed : (f k : ℕ) → f < all_files → within 1 (limit f) k ≡ true → Numbered limit f k
   number_passed f k file is =
-      let inside = within-inside 1 (limit f) k (not-false _ is) in record { file = file; first = inside.0; last = inside.1 }
+      let inside = within-inside 1 (limit f) k is in record { file = file; first = inside.0; last = inside.1 }
 
-  record-passed : (f k : ℕ) → f < all_files → Passed limit (record_asked (limit f) f k)
+  record-passed : (f k : ℕ) (part : Part) → f < all_files → Passed limit (record_asked (limit f) f k part)
   unfolding record_asked
-  record-passed f k file = by_cond Ok (not (within 1 (limit f) k)) _ _ (λ _. tt) (number_passed f k file)
-
-  stamp-passed : (f k : ℕ) → f < all_files → Passed limit (stamp_asked (limit f) f k)
-  unfolding stamp_asked
-  stamp-passed f k file = by_cond Ok (not (within 1 (limit f) k)) _ _ (λ _. tt) (number_passed f k file)
+  record-passed f k part file = by_cond Fine (within 1 (limit f) k) _ _ (number_passed f k file) (λ _. tt)
 
   registers-passed : (i q : ℕ) → Passed limit (registers_asked i q)
   unfolding registers_asked
   registers-passed i q =
-      by_cond Ok (not (within 1 all_registers q)) _ _ (λ _. tt)
-      (λ _. by_cond Ok (ltb all_registers (i + q)) _ _ (λ _. tt) (λ past. ltb-false _ _ past))
+      by_cond Fine (not (within 1 all_registers q)) _ _ (λ _. tt)
+      (λ _. by_cond Fine (ltb all_registers (i + q)) _ _ (λ _. tt) (λ past. ltb-false _ _ past))
 
   -- points from p on, of p's row
-  points-passed : (r : Row) (p q : ℕ) → row_of p ≡ In r → Passed limit (points_asked r p q)
+  points-passed : (r : Row) (p q : ℕ) → row_of p ≡ Some r → Passed limit (points_asked r p q)
   unfolding points_asked
   points-passed r p q row =
-      by_cond Ok (eqb q 0 || ltb most_data (points_size r q)) _ _ (λ _. tt)
-      (λ few. by_cond Ok (not (ends_in_row r p q)) _ _ (λ _. tt) (λ ends.
+      by_cond Fine (eqb q 0 || ltb most_data (points_size r q)) _ _ (λ _. tt)
+      (λ few. by_cond Fine (not (ends_in_row r p q)) _ _ (λ _. tt) (λ ends.
       let some : q ≡ 0 → ⊥ = eqb-false q 0 (or_left (eqb q 0) (ltb most_data (points_size r q)) few) in
       record {
         grouped = group-of-run p q r row (omega arith) (not-false _ ends);
         short = ltb-false most_data (points_size r q) (or_right (eqb q 0) (ltb most_data (points_size r q)) few);
       }))
 
-  live-passed : (function : ℕ) (found : Found) (p q : ℕ) → row_of p ≡ found → Passed limit (live_asked function found p q)
-  live-passed function Nowhere p q looked = tt
-  live-passed function (In r) p q looked = by_cond Ok (eqb function (function_for r)) _ _ (λ _. points-passed r p q looked) (λ _. tt)
+  live-passed : (function : Function) (found : Option Row) (p q : ℕ) → row_of p ≡ found → Passed limit (live_asked function found p q)
+  live-passed function None p q looked = tt
+  live-passed function (Some r) p q looked = by_cond Fine (eqb (number_of function) (number_of (function_for r))) _ _ (λ _. points-passed r p q looked) (λ _. tt)
 
   read-passed : (requested : List ℕ) (a q : ℕ) → Passed limit (read_asked limit requested a q)
   unfolding read_asked
   read-passed requested a q =
-      by_cond Ok (on_file 700 a) _ _ (λ is. record-passed (file_at 700 a) (get_or requested (file_at 700 a) 0) (on_file_lem 700 a is))
-      (λ _. by_cond Ok (on_file 720 a) _ _ (λ is. record-passed (file_at 720 a) q (on_file_lem 720 a is))
-      (λ _. by_cond Ok (on_file 750 a) _ _ (λ is. stamp-passed (file_at 750 a) (get_or requested (file_at 750 a) 0) (on_file_lem 750 a is))
-      (λ _. by_cond Ok (on_file 770 a) _ _ (λ is. stamp-passed (file_at 770 a) q (on_file_lem 770 a is))
-      (λ _. by_cond Ok (on_register a) _ _ (λ _. registers-passed (a - first_register) q)
-      (λ _. live-passed 3 (row_of a) a q refl)))))
+      by_cond Fine (on_file 700 a) _ _ (λ is. record-passed (file_at 700 a) (get_or requested (file_at 700 a) 0) _ (on_file_lem 700 a is))
+      (λ _. by_cond Fine (on_file 720 a) _ _ (λ is. record-passed (file_at 720 a) q _ (on_file_lem 720 a is))
+      (λ _. by_cond Fine (on_file 750 a) _ _ (λ is. record-passed (file_at 750 a) (get_or requested (file_at 750 a) 0) _ (on_file_lem 750 a is))
+      (λ _. by_cond Fine (on_file 770 a) _ _ (λ is. record-passed (file_at 770 a) q _ (on_file_lem 770 a is))
+      (λ _. by_cond Fine (on_register a) _ _ (λ _. registers-passed (a - first_register) q)
+      (λ _. live-passed Read (row_of a) a q refl)))))
 
   write-passed : (a x : ℕ) → Passed limit (write_asked limit a x)
   unfolding write_asked number_asked
   write-passed a x =
       let f = (a - first_register) / 3 in
-      by_cond Ok (on_requested a) _ _
-      (λ is. by_cond Ok (not (within 1 (limit f) x)) _ _ (λ _. tt)
-      (number_passed f x (on-registers a (and_left (on_register a) (eqb ((a - first_register) % 3) 2) is))))
+      by_cond Fine (on_requested a) _ _
+      (λ is. by_cond Fine (within 1 (limit f) x) _ _
+      (number_passed f x (on-registers a (and_left (on_register a) (eqb ((a - first_register) % 3) 2) is))) (λ _. tt))
       (λ _. tt)
+
+  as-passed : (requested : List ℕ) (a q : ℕ) (function : Function) → Passed limit (asked_as limit requested a q function)
+  as-passed requested a q ReadFlags = live-passed ReadFlags (row_of a) a q refl
+  as-passed requested a q Read = read-passed requested a q
+  as-passed requested a q Write = write-passed a q
+
+  by-passed : (requested frame : List ℕ) (function : Result Function Exception) → Passed limit (asked_by limit requested frame function)
+  by-passed requested frame (Err exception) = tt
+  by-passed requested frame (Ok function) =
+      by_cond Fine (not (eqb (length frame) 8)) _ _ (λ _. tt) (λ _. as-passed requested (address_of frame) (quantity_of frame) function)
 
   pub asked-passed : (requested frame : List ℕ) → Passed limit (asked limit requested frame)
   unfolding asked
-  asked-passed requested frame =
-      by_cond Ok (not (is_known (function_of frame))) _ _ (λ _. tt)
-      (λ _. by_cond Ok (not (eqb (length frame) 8)) _ _ (λ _. tt)
-      (λ _. by_cond Ok (eqb (function_of frame) 1) _ _ (λ _. live-passed 1 (row_of (address_of frame)) (address_of frame) (quantity_of frame) refl)
-      (λ _. by_cond Ok (eqb (function_of frame) 3) _ _ (λ _. read-passed requested (address_of frame) (quantity_of frame))
-      (λ _. write-passed (address_of frame) (quantity_of frame)))))
+  asked-passed requested frame = by-passed requested frame (function_by (function_of frame))
 
 -- ---- registers
 pub length-registers : (v : View) (i q : ℕ) → length (register_bytes v i q) ≡ 2 * q
@@ -145,31 +152,34 @@ registers-put v b b' b'' first i w fits before is put =
 pub live-captured : (table : List ℕ) (r : Row) (p q : ℕ) → PointRun r p q → captured_points table r p q ≡ captured_group table (group_of p q) p q
 live-captured table r p q run = rw run.grouped refl
 
+-- ---- the part of a record that is sent, where a record has a stamp
+pub sent-within : (part : Part) (size : ℕ) → 6 ≤ size → sent_size part size ≤ size
+sent-within Whole size stamped = omega arith
+sent-within Stamp size stamped = stamped
+
+pub part-sent : (part : Part) (size : ℕ) (bytes : List ℕ) → 6 ≤ size → take (sent_size part size) bytes ≡ part_of part (take size bytes)
+part-sent Whole size bytes stamped = refl
+part-sent Stamp size bytes stamped = sym (take-take 6 size bytes stamped)
+
 -- ---- what a poll lends its steps
-pub record-lent : (groups limits sizes : List ℕ) (depth : ℕ) (pointers requested m table buffer : List ℕ) (f k size : ℕ) →
-    let l = layout_from groups limits depth in
-    LentPoll groups limits sizes depth pointers requested m table buffer → Numbered (limit_of l) f k → size ≤ size_of l f →
-    LentRecord (file_of l f) k size m buffer
-unfolding has_room
-record-lent groups limits sizes depth pointers requested m table buffer f k size lent number part =
-    let l = layout_from groups limits depth in
-    let room : layout_size l ≤ length m = leb-true _ _ lent.room in
+pub record_lent : (files : List File) (m buffer : List ℕ) (f k : ℕ) (part : Part) → LentPoll files m buffer → Numbered (limit_in files) f k →
+    LentRecord (file_in files f) k (sent_size part (file_in files f).size) m buffer
+record_lent files m buffer f k part lent number =
     record {
-      ring = record { some = omega (arith, number.first, number.last); fits = omega (arith, file-inside l f number.file, room) };
+      ring = record { some = omega (arith, number.first, number.last); fits = lent.fits f number.file };
       first = number.first;
       last = number.last;
-      part = part;
-      short = (size-within l f lent.layout.good).1;
+      part = sent-within part _ (lent.stamped f number.file);
+      short = lent.short f number.file;
       buffered = lent.buffered;
     }
 
-pub sets-file : (limit : ℕ → ℕ) (asks : Asked) → Passed limit asks → SetsFile asks
-sets-file limit (Exception code) passed = tt
-sets-file limit (WholeRecord f k) passed = tt
-sets-file limit (StampOnly f k) passed = tt
-sets-file limit (Registers i q) passed = tt
-sets-file limit (LivePoints r p q) passed = tt
-sets-file limit (SetRequested f x) passed = passed.file
+pub sets-file : (limit : ℕ → ℕ) (asks : Result Asked Exception) → Passed limit asks → SetsFile asks
+sets-file limit (Err exception) passed = tt
+sets-file limit (Ok (Record f k part)) passed = tt
+sets-file limit (Ok (Registers i q)) passed = tt
+sets-file limit (Ok (LivePoints r p q)) passed = tt
+sets-file limit (Ok (SetRequested f x)) passed = passed.file
 
 -- ---- a frame, by its unit
 module _ (v : View) (frame : List ℕ) where
@@ -197,14 +207,13 @@ unfolding is_heard
 heard-long frame heard = within-inside 4 256 (length frame) (and_left (within 4 256 (length frame)) (ends_in_crc frame) heard)
 
 -- ---- requested numbers stay within n
-numbers-within : (limit : ℕ → ℕ) (numbers : List ℕ) → ((f : ℕ) → f < all_files → get_or numbers f 0 ≤ limit f) → (a : Asked) → Passed limit a →
+numbers-within : (limit : ℕ → ℕ) (numbers : List ℕ) → ((f : ℕ) → f < all_files → get_or numbers f 0 ≤ limit f) → (a : Result Asked Exception) → Passed limit a →
     (f : ℕ) → f < all_files → get_or (requested_by a numbers) f 0 ≤ limit f
-numbers-within limit numbers old (Exception code) passed f below = old f below
-numbers-within limit numbers old (WholeRecord g k) passed f below = old f below
-numbers-within limit numbers old (StampOnly g k) passed f below = old f below
-numbers-within limit numbers old (Registers i q) passed f below = old f below
-numbers-within limit numbers old (LivePoints r p q) passed f below = old f below
-numbers-within limit numbers old (SetRequested g x) passed f below = set-within limit numbers g x f passed.last (old f below)
+numbers-within limit numbers old (Err exception) passed f below = old f below
+numbers-within limit numbers old (Ok (Record g k part)) passed f below = old f below
+numbers-within limit numbers old (Ok (Registers i q)) passed f below = old f below
+numbers-within limit numbers old (Ok (LivePoints r p q)) passed f below = old f below
+numbers-within limit numbers old (Ok (SetRequested g x)) passed f below = set-within limit numbers g x f passed.last (old f below)
 
 pub requested-within : (v : View) (frame : List ℕ) → ((f : ℕ) → f < all_files → get_or v.requested f 0 ≤ v.limit f) →
     (f : ℕ) → f < all_files → get_or (requested_after v frame) f 0 ≤ v.limit f

@@ -7,7 +7,8 @@ use Prim.Native.Nat.{ℕ, ◌≤◌}
 use native.Mathlib.Omega.{arith}
 use lib.ListN.{length, take, drop, length-take}
 use Rattle.basics.proofs.Tests.{by_cond, and_left}
-use Rattle.modbus.specs.Frame.{function_of, read_reply_by, exception_reply}
+use Rattle.modbus.specs.declared.frame.Exception.{Exception}
+use Rattle.modbus.specs.Frame.{code_of, function_of, read_reply_by, exception_reply}
 use Rattle.modbus.proofs.Laws.{length-framed}
 use Rattle.points.specs.declared.groups.Group.TheVariants.{Points}
 use Rattle.records.specs.Capture.{captured_points}
@@ -15,8 +16,10 @@ use Rattle.records.proofs.Laws.{length-captured}
 use Rattle.archive.specs.Layout.{Layout, good_files, limit_of, size_of, base_of}
 use Rattle.archive.specs.Ring.{record_place}
 use Rattle.archive.proofs.Layouts.{size-within}
+use Rattle.std.specs.Prelude.{Result, Ok, Err}
+use Rattle.polls.specs.declared.request.Part.TheVariants.{Whole, Stamp}
 use Rattle.polls.specs.declared.request.Asked.{Asked}
-use Rattle.polls.specs.declared.request.Asked.TheVariants.{Exception, WholeRecord, StampOnly, Registers, LivePoints, SetRequested}
+use Rattle.polls.specs.declared.request.Asked.TheVariants.{Record, Registers, LivePoints, SetRequested}
 use Rattle.polls.specs.View.{View, archive_view}
 use Rattle.polls.specs.Addresses.{most_data}
 use Rattle.polls.specs.Frames.{is_heard, asked_of, is_ours, register_bytes, reply_of, reply_to}
@@ -39,17 +42,17 @@ module _ (unit : ℕ) (l : Layout) (pointers requested m table : List ℕ) (good
   abbrev view : View
   view = archive_view unit l pointers requested m table
 
-  answer-short : (frame : List ℕ) (asks : Asked) → Passed (limit_of l) asks → length frame ≤ least_buffer → length (reply_of view frame asks) ≤ least_buffer
+  answer-short : (frame : List ℕ) (asks : Result Asked Exception) → Passed (limit_of l) asks → length frame ≤ least_buffer → length (reply_of view frame asks) ≤ least_buffer
   unfolding reply_of
-  answer-short frame (Exception code) passed few = exception-short unit (function_of frame) code
-  answer-short frame (WholeRecord f k) passed few =
+  answer-short frame (Err exception) passed few = exception-short unit (function_of frame) (code_of exception)
+  answer-short frame (Ok (Record f k Whole)) passed few =
       read_short unit 3 (view.reads f k) (omega (arith, take_short (size_of l f) (drop (record_place (base_of l f) (size_of l f) k) m), (size-within l f good).1))
-  answer-short frame (StampOnly f k) passed few =
+  answer-short frame (Ok (Record f k Stamp)) passed few =
       read_short unit 3 (take 6 (view.reads f k)) (omega (arith, take_short 6 (view.reads f k)))
-  answer-short frame (Registers i q) passed few = read_short unit 3 (register_bytes view i q) (rw length-registers (omega (arith, passed)))
-  answer-short frame (LivePoints r p q) passed few =
+  answer-short frame (Ok (Registers i q)) passed few = read_short unit 3 (register_bytes view i q) (rw length-registers (omega (arith, passed)))
+  answer-short frame (Ok (LivePoints r p q)) passed few =
       read_short unit (function_of frame) (captured_points table r p q) (omega (arith, length-captured table (Points r) p q, passed.short))
-  answer-short frame (SetRequested f x) passed few = few
+  answer-short frame (Ok (SetRequested f x)) passed few = few
 
   pub reply-short : (frame : List ℕ) → length (reply_to view frame) ≤ least_buffer
   unfolding reply_to

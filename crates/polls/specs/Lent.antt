@@ -1,29 +1,22 @@
 -- What the functions of this crate are lent, by a poll that is not refused.
-use Rattle.std.specs.Prelude.{◌≡◌, List, [], true, ℕ, ◌+◌, ◌≤◌, ◌<◌, length}
+use Rattle.std.specs.Prelude.{◌≡◌, List, ℕ, ◌+◌, ◌*◌, ◌≤◌, ◌<◌, length, Result, Ok, Err}
+use Rattle.modbus.specs.declared.frame.Exception.{Exception}
 use Rattle.points.specs.declared.table.Row.{Row}
 use Rattle.points.specs.declared.groups.Group.TheVariants.{Points}
 use Rattle.points.specs.Table.{table_bytes, points_size}
 use Rattle.points.specs.Groups.{group_of}
-use Rattle.archive.specs.Layout.{layout_from, defined_files, all_files, has_room}
+use Rattle.archive.specs.Layout.{all_files}
 use Rattle.archive.specs.declared.layout.File.{File}
-use Rattle.archive.specs.Lent.{LentRing, LentLayout}
+use Rattle.archive.specs.Lent.{LentRing, file_in}
 use Rattle.polls.specs.declared.request.Asked.{Asked}
-use Rattle.polls.specs.declared.request.Asked.TheVariants.{Exception, WholeRecord, StampOnly, Registers, LivePoints, SetRequested}
-use Rattle.polls.specs.View.{View, archive_view}
+use Rattle.polls.specs.declared.request.Asked.TheVariants.{Record, Registers, LivePoints, SetRequested}
+use Rattle.polls.specs.declared.request.Part.{Part}
+use Rattle.polls.specs.declared.request.Part.TheVariants.{Whole, Stamp}
 use Rattle.polls.specs.Addresses.{all_registers, most_data}
 
 -- the least bytes of a reply buffer: no reply is longer
 abbrev pub least_buffer : ℕ
 least_buffer = 256
-
--- what registers are read from; unit, groups, memory and live table are not among it
-pub record LentRegisters (limits pointers requested : List ℕ) : Type 0 where
-  pub limited : length limits ≡ defined_files
-  pub pointed : length pointers ≡ all_files
-  pub numbered : length requested ≡ all_files
-
-abbrev pub register_view : List ℕ → ℕ → List ℕ → List ℕ → View
-register_view limits depth pointers requested = archive_view 0 (layout_from [] limits depth) pointers requested [] []
 
 -- record k of a file in archive memory m, of which the first `size` bytes are sent
 pub record LentRecord (file : File) (k size : ℕ) (m buffer : List ℕ) : Type 0 where
@@ -45,13 +38,11 @@ pub record LentPoints (r : Row) (p q : ℕ) (table buffer : List ℕ) : Type 0 w
   pub whole : length table ≡ table_bytes
   pub buffered : least_buffer ≤ length buffer
 
--- a layout, measured and within archive memory m; a pointer and a requested number for each file; a live table; a reply buffer
-pub record LentPoll (groups limits sizes : List ℕ) (depth : ℕ) (pointers requested m table buffer : List ℕ) : Type 0 where
-  pub layout : LentLayout groups limits sizes
-  pub room : has_room (layout_from groups limits depth) (length m) ≡ true
-  pub pointed : length pointers ≡ all_files
-  pub numbered : length requested ≡ all_files
-  pub whole : length table ≡ table_bytes
+-- files within archive memory m, whose records have at least a stamp and are no longer than a reply; a reply buffer
+pub record LentPoll (files : List File) (m buffer : List ℕ) : Type 0 where
+  pub fits : (f : ℕ) → f < all_files → (file_in files f).from + (file_in files f).limit * (file_in files f).size ≤ length m
+  pub stamped : (f : ℕ) → f < all_files → 6 ≤ (file_in files f).size
+  pub short : (f : ℕ) → f < all_files → (file_in files f).size ≤ most_data
   pub buffered : least_buffer ≤ length buffer
 
 -- ---- what is asked has passed its checks
@@ -61,25 +52,28 @@ pub record Numbered (limit : ℕ → ℕ) (f k : ℕ) : Type 0 where
   pub first : 1 ≤ k
   pub last : k ≤ limit f
 
-abbrev pub Passed : (ℕ → ℕ) → Asked → Type 0
-Passed limit (Exception code) = Unit {0}
-Passed limit (WholeRecord f k) = Numbered limit f k
-Passed limit (StampOnly f k) = Numbered limit f k
-Passed limit (Registers i q) = i + q ≤ all_registers
-Passed limit (LivePoints r p q) = PointRun r p q
-Passed limit (SetRequested f x) = Numbered limit f x
+abbrev pub Passed : (ℕ → ℕ) → Result Asked Exception → Type 0
+Passed limit (Err exception) = Unit {0}
+Passed limit (Ok (Record f k part)) = Numbered limit f k
+Passed limit (Ok (Registers i q)) = i + q ≤ all_registers
+Passed limit (Ok (LivePoints r p q)) = PointRun r p q
+Passed limit (Ok (SetRequested f x)) = Numbered limit f x
 
 -- a requested number that is set is a file's
-abbrev pub SetsFile : Asked → Type 0
-SetsFile (Exception code) = Unit {0}
-SetsFile (WholeRecord f k) = Unit {0}
-SetsFile (StampOnly f k) = Unit {0}
-SetsFile (Registers i q) = Unit {0}
-SetsFile (LivePoints r p q) = Unit {0}
-SetsFile (SetRequested f x) = f < all_files
+abbrev pub SetsFile : Result Asked Exception → Type 0
+SetsFile (Err exception) = Unit {0}
+SetsFile (Ok (Record f k part)) = Unit {0}
+SetsFile (Ok (Registers i q)) = Unit {0}
+SetsFile (Ok (LivePoints r p q)) = Unit {0}
+SetsFile (Ok (SetRequested f x)) = f < all_files
+
+-- how many bytes of a record are sent, of which there are `size`
+abbrev pub sent_size : Part → ℕ → ℕ
+sent_size Whole size = size
+sent_size Stamp size = 6
 
 -- what is asked has passed its checks, and its frame has a function and, as it may be echoed, no more bytes than a reply buffer
-pub record LentAsked (limit : ℕ → ℕ) (frame : List ℕ) (asked : Asked) : Type 0 where
+pub record LentAsked (limit : ℕ → ℕ) (frame : List ℕ) (asked : Result Asked Exception) : Type 0 where
   pub passed : Passed limit asked
   pub some : 4 ≤ length frame
   pub most : length frame ≤ least_buffer

@@ -4,3 +4,4 @@
 pub mod poll;
 pub mod reply;
 pub mod request;
+pub mod view;

@@ -1,42 +1,31 @@
-// A frame answered, document 01, "Frames", and document 02, L3. The functions take the parts of a gateway's state that a poll looks at.
+// A frame answered.
 ghost use Rattle.std.specs.Prelude.{◌≡◌, take, drop};
-ghost use Rattle.archive.specs.Layout.{layout_from, limit_of};
 ghost use Rattle.archive.specs.Ring.{record_place};
 ghost use Rattle.modbus.specs.Frame.{read_reply, Sent};
-ghost use Rattle.polls.specs.View.{archive_view};
+ghost use Rattle.polls.specs.View.{view_of, limit_in};
 ghost use Rattle.polls.specs.Frames.{is_heard, reply_of, requested_by, Answers};
 ghost use Rattle.polls.specs.Lent.{LentRecord, LentPoll, LentAsked, SetsFile};
 
 use crate::reply::{send_bytes, send_echo, send_points, send_registers};
 use crate::request::{Asked, ask};
-use archive::layout::{File, file_at};
-use archive::ring::record_place;
+use crate::view::View;
+use archive::layout::{FILES, File};
 use modbus::crc::ends_in_crc;
-use modbus::frame::write_exception;
+use modbus::frame::{Exception, write_exception};
 
 // What a poll leaves: the reply's length, 0 for none, and the requested numbers.
-#[derive(Clone, Copy)]
+#[derive(Clone, Copy, Debug, PartialEq, Eq)]
 pub struct Answered {
     pub length: usize,
-    pub requested: [u16; 11],
+    pub requested: [u16; FILES],
 }
-
-// A stamp's bytes, the first of each record.
-const STAMP_SIZE: usize = 6;
 
 // Whether a frame has a request's length and the right CRC.
 #[tactic(auto, unfolding(crate::specs::Frames::is_heard))]
 fn is_heard(frame: &[u8]) -> bool
     ensures { result ≡ is_heard frame.now }
 {
-    let n = frame.len();
-    if n < 4 {
-        return false;
-    }
-    if 256 < n {
-        return false;
-    }
-    ends_in_crc(frame)
+    (4..=256).contains(&frame.len()) && ends_in_crc(frame)
 }
 
 // Sends the first `size` bytes of a file's record k, and answers the reply's length.
@@ -53,124 +42,78 @@ fn send_record(
         (read_reply unit (take size (drop (record_place file.from file.size k) archive.now)))
         buffer.old result buffer.new }
 {
-    let at = record_place(file.from, file.size, k);
-    send_bytes(buffer, unit, archive, at, size)
+    send_bytes(buffer, unit, archive, file.record_at(k), size)
 }
 
 // The requested numbers that are left by what was asked.
-fn requested_by(asked: Asked, requested: [u16; 11]) -> [u16; 11]
+fn requested_by(asked: Result<Asked, Exception>, requested: &[u16; FILES]) -> [u16; FILES]
     requires { SetsFile asked }
-    ensures { result ≡ requested_by asked requested }
+    ensures { result ≡ requested_by asked requested.now }
 {
-    match asked {
-        Asked::Exception(_) => requested,
-        Asked::WholeRecord(_, _) => requested,
-        Asked::StampOnly(_, _) => requested,
-        Asked::Registers(_, _) => requested,
-        Asked::LivePoints(_, _, _) => requested,
-        Asked::SetRequested(f, number) => {
-            let mut numbers = requested;
-            numbers[f] = number;
-            numbers
-        }
+    let mut numbers = *requested;
+    if let Ok(Asked::SetRequested { file, number }) = asked {
+        numbers[file] = number;
     }
+    numbers
 }
 
 // Sends the reply to a frame for our unit by what it asked, and answers the reply's length.
-fn reply_to(
-    asked: Asked,
-    buffer: &mut [u8],
-    unit: u8,
-    frame: &[u8],
-    archive: &[u8],
-    table: &[u8],
-    groups: &[u16],
-    limits: &[u16],
-    sizes: &[usize],
-    depth: u16,
-    pointers: &[u16],
-    requested: &[u16],
-) -> usize
-    requires lent_poll { LentPoll groups.now limits.now sizes.now depth pointers.now
-        requested.now archive.now table.now buffer.old }
-    requires lent_asked { LentAsked (limit_of (layout_from groups.now limits.now depth))
-        frame.now asked }
-    ensures { Sent
-        (reply_of
-        (archive_view unit (layout_from groups.now limits.now depth) pointers.now requested.now archive.now table.now)
-        frame.now asked)
-        buffer.old result buffer.new }
+fn reply_to(asked: Result<Asked, Exception>, buffer: &mut [u8], frame: &[u8], view: &View) -> usize
+    requires lent_poll { LentPoll view.now.files.now view.now.archive.now buffer.old }
+    requires lent_asked { LentAsked (limit_in view.now.files.now) frame.now asked }
+    ensures { Sent (reply_of (view_of view.now) frame.now asked) buffer.old result buffer.new }
 {
     match asked {
-        Asked::Exception(code) => write_exception(buffer, unit, frame[1], code),
-        Asked::WholeRecord(f, k) => {
-            let file = file_at(groups, limits, sizes, depth, f);
-            send_record(buffer, unit, archive, file, k, file.size)
+        Err(exception) => write_exception(buffer, view.unit, frame[1], u8::from(exception)),
+        Ok(Asked::Record { file, number, part }) => {
+            let archive = view.archive;
+            let file = view.files[file];
+            let size = part.sent_size(file.size);
+            send_record(buffer, view.unit, archive, file, number, size)
         }
-        Asked::StampOnly(f, k) => {
-            let file = file_at(groups, limits, sizes, depth, f);
-            send_record(buffer, unit, archive, file, k, STAMP_SIZE)
+        Ok(Asked::Registers { first, count }) => send_registers(buffer, view, first, count),
+        Ok(Asked::LivePoints { row, point, count }) => {
+            let table = view.table;
+            send_points(buffer, view.unit, frame[1], table, row, point, count)
         }
-        Asked::Registers(first, count) => send_registers(
-            buffer, unit, limits, depth, pointers, requested, first, count,
-        ),
-        Asked::LivePoints(row, point, count) => {
-            send_points(buffer, unit, frame[1], table, row, point, count)
-        }
-        Asked::SetRequested(_, _) => send_echo(buffer, frame),
+        Ok(Asked::SetRequested { .. }) => send_echo(buffer, frame),
     }
 }
 
-// Answers a frame of any length and content: all checks come before the first byte of the reply. Parts of one state can be lent
-// together only for one lifetime. It is not put into its caller: what it keeps would lie on the stack while the state is checked, where a
-// poll is deepest.
-#[inline(never)]
-pub fn answer<'a>(
-    buffer: &mut [u8],
-    unit: u8,
-    frame: &[u8],
-    archive: &[u8],
-    table: &[u8],
-    groups: &'a [u16],
-    limits: &'a [u16],
-    sizes: &[usize],
-    depth: u16,
-    pointers: &'a [u16],
-    requested: [u16; 11],
-) -> Answered
-    requires { LentPoll groups.now limits.now sizes.now depth pointers.now requested
-        archive.now table.now buffer.old }
-    ensures { Answers
-        (archive_view unit (layout_from groups.now limits.now depth) pointers.now requested archive.now table.now)
-        frame.now buffer.old result.length buffer.new result.requested }
-{
-    if !is_heard(frame) {
-        return Answered {
+impl View<'_> {
+    // Answers a frame of any length and content: all checks come before the first byte of the reply. It is not put into its caller: what it
+    // keeps would lie on the stack while the state is checked, where a poll is deepest.
+    #[inline(never)]
+    pub fn answer(&self, buffer: &mut [u8], frame: &[u8]) -> Answered
+        requires { LentPoll self.now.files.now self.now.archive.now buffer.old }
+        ensures { Answers (view_of self.now) frame.now buffer.old
+            result.length buffer.new result.requested }
+    {
+        let requested = self.requested;
+        let silent = Answered {
             length: 0,
-            requested,
+            requested: *requested,
         };
-    }
-    let ours = frame[0] == unit;
-    if !(ours | (frame[0] == 0)) {
-        return Answered {
-            length: 0,
-            requested,
-        };
-    }
-    let asked = ask(frame, limits, depth, &requested);
-    let numbers = requested_by(asked, requested);
-    if !ours {
-        return Answered {
-            length: 0,
+        if !is_heard(frame) {
+            return silent;
+        }
+        let ours = frame[0] == self.unit;
+        if !(ours | (frame[0] == 0)) {
+            return silent;
+        }
+        let files = self.files;
+        let asked = ask(frame, files, requested);
+        let numbers = requested_by(asked, requested);
+        if !ours {
+            return Answered {
+                length: 0,
+                requested: numbers,
+            };
+        }
+        let length = reply_to(asked, buffer, frame, self);
+        Answered {
+            length,
             requested: numbers,
-        };
-    }
-    let length = reply_to(
-        asked, buffer, unit, frame, archive, table, groups, limits, sizes, depth, pointers,
-        &requested,
-    );
-    Answered {
-        length,
-        requested: numbers,
+        }
     }
 }

@@ -1,17 +1,16 @@
-// Replies, document 01, "Frames", and document 02, L3, built where they are sent from: bytes go once from where they stand, live texts
-// cleaned on the way (L5), to byte 3 of the reply buffer.
+// Replies, built where they are sent from: bytes go once from where they stand, live texts cleaned on the way, to byte 3 of the reply
+// buffer.
 ghost use Rattle.std.specs.Prelude.{◌≡◌, ◌+◌, ◌≤◌, ◌<◌, length, take, drop};
 ghost use Rattle.modbus.specs.Frame.{read_reply, read_reply_by, Sent};
 ghost use Rattle.records.specs.Capture.{captured_points};
 ghost use Rattle.polls.specs.Frames.{register, register_bytes};
-ghost use Rattle.polls.specs.Lent.{LentRegisters, LentPoints, register_view};
+ghost use Rattle.polls.specs.View.{view_of};
+ghost use Rattle.polls.specs.Lent.{LentPoints};
 
-use archive::layout::file_limit;
-use basics::copy_bytes;
-use modbus::frame::{READ, close_read_reply};
+use crate::view::View;
+use modbus::frame::{Function, close_read_reply};
 use modbus::word::put_word;
 use points::Row;
-use points::table::points_size;
 use records::record::write_points;
 
 // Sends `size` bytes of archive memory from place `at` on as a read reply, and answers its length.
@@ -20,8 +19,8 @@ pub fn send_bytes(buffer: &mut [u8], unit: u8, archive: &[u8], at: usize, size: 
     ensures { Sent (read_reply unit (take size (drop at archive.now)))
         buffer.old result buffer.new }
 {
-    copy_bytes(&mut buffer[3..3 + size], &archive[at..at + size]);
-    close_read_reply(buffer, unit, READ, size)
+    buffer[3..3 + size].copy_from_slice(&archive[at..at + size]);
+    close_read_reply(buffer, unit, u8::from(Function::Read), size)
 }
 
 // Sends a frame back as it came, and answers its length.
@@ -30,53 +29,34 @@ pub fn send_echo(buffer: &mut [u8], frame: &[u8]) -> usize
     ensures { Sent frame.now buffer.old result buffer.new }
 {
     let size = frame.len();
-    copy_bytes(&mut buffer[..size], frame);
+    buffer[..size].copy_from_slice(frame);
     size
 }
 
 // Register number i, counted from 0: n, pointer and requested number of file after file.
-fn register_at(limits: &[u16], depth: u16, pointers: &[u16], requested: &[u16], i: usize) -> u16
-    requires lent_registers { LentRegisters limits.now pointers.now requested.now }
-    requires i_bound { i < 33 }
-    ensures { result ≡ register (register_view limits.now depth pointers.now requested.now) i }
+#[tactic(auto, unfolding(crate::specs::Frames::register))]
+fn register_at(view: &View, i: usize) -> u16
+    requires { i < 33 }
+    ensures { result ≡ register (view_of view.now) i }
 {
     let f = i / 3;
-    if i % 3 == 0 {
-        return file_limit(limits, depth, f);
+    match i % 3 {
+        0 => view.files[f].limit,
+        1 => view.pointers[f],
+        _ => view.requested[f],
     }
-    if i % 3 == 1 {
-        return pointers[f];
-    }
-    requested[f]
 }
 
 // Sends registers as a read reply, and answers its length.
-pub fn send_registers(
-    buffer: &mut [u8],
-    unit: u8,
-    limits: &[u16],
-    depth: u16,
-    pointers: &[u16],
-    requested: &[u16],
-    first: usize,
-    count: usize,
-) -> usize
-    requires lent_registers { LentRegisters limits.now pointers.now requested.now }
-    requires bounds { (first + count ≤ 33) × (256 ≤ length buffer.old) }
-    ensures { Sent
-        (read_reply unit (register_bytes (register_view limits.now depth pointers.now requested.now) first count))
+pub fn send_registers(buffer: &mut [u8], view: &View, first: usize, count: usize) -> usize
+    requires { (first + count ≤ 33) × (256 ≤ length buffer.old) }
+    ensures { Sent (read_reply view.now.unit (register_bytes (view_of view.now) first count))
         buffer.old result buffer.new }
 {
-    let mut i: usize = 0;
-    while i < count {
-        put_word(
-            buffer,
-            3 + 2 * i,
-            register_at(limits, depth, pointers, requested, first + i),
-        );
-        i += 1;
+    for i in 0..count {
+        put_word(buffer, 3 + 2 * i, register_at(view, first + i));
     }
-    close_read_reply(buffer, unit, READ, 2 * count)
+    close_read_reply(buffer, view.unit, u8::from(Function::Read), 2 * count)
 }
 
 // Sends live points, as a capture has them, as a read reply by the function that asked, and answers its length.
@@ -94,7 +74,7 @@ pub fn send_points(
         (read_reply_by unit function (captured_points table.now row point count))
         buffer.old result buffer.new }
 {
-    let size = points_size(row, count);
+    let size = row.bytes(count);
     write_points(&mut buffer[3..3 + size], table, row, point, count);
     close_read_reply(buffer, unit, function, size)
 }

@@ -2,13 +2,13 @@
 // The program `records` of tests/model prints the same lines apart from this program.
 #![tactic(auto)]
 
-ghost use Rattle.std.specs.Prelude.{◌≡◌, true, ◌<◌, length};
-ghost use Rattle.points.specs.Table.{table_bytes, float_or_none};
+ghost use Rattle.std.specs.Prelude.{◌≡◌, true, ◌<◌};
+ghost use Rattle.points.specs.Table.{float_or_none};
 
-use points::Judged;
 use points::groups::judge;
-use records::alarm::write_alarm;
-use records::record::write_record;
+use points::table::TABLE_BYTES;
+use records::alarm::Event;
+use records::moment::Moment;
 use records::stamp::Stamp;
 use std::io;
 
@@ -29,61 +29,54 @@ const MIXED: [u16; 32] = [
 ];
 
 // The live table: byte i is 37 i + 11 modulo 251, which is prime, so that no two rows start alike.
-fn live_table() -> [u8; 1424]
-    ensures { length result ≡ table_bytes }
-{
-    let mut table = [0u8; 1424];
+fn live_table() -> [u8; TABLE_BYTES] {
+    let mut table = [0u8; TABLE_BYTES];
     for (i, byte) in table.iter_mut().enumerate() {
         *byte = ((i * 37 + 11) % 251) as u8;
     }
     table
 }
 
-// A digit's sign, lower case.
-fn digit(d: u8) -> u8
-    requires { d < 16 }
-{
-    if d < 10 { b'0' + d } else { b'a' + (d - 10) }
-}
-
-// Writes a byte as two digits.
-fn write_byte(rt: &impl Print, b: u8) -> io::Result<()> {
-    let text = [digit(b / 16), digit(b % 16)];
-    rt.write_all(&text)
-}
-
 // Writes a record's line.
 fn write_line(rt: &impl Print, bytes: &[u8]) -> io::Result<()> {
     for byte in bytes {
-        write_byte(rt, *byte)?;
+        print!(rt; "{byte:02x}")?;
     }
     println!(rt)
 }
 
 // Writes the record of a definition in a line. A definition that is refused, as none here is, gives the line "refused".
-fn show_record(rt: &impl Print, table: &[u8], groups: &[u16], day_first: bool) -> io::Result<()>
-    requires { length table.now ≡ table_bytes }
-{
-    let Judged::Good(size) = judge(groups) else {
+fn show_record(
+    rt: &impl Print,
+    table: &[u8; TABLE_BYTES],
+    groups: &[u16; 32],
+    day_first: bool,
+) -> io::Result<()> {
+    let Ok(size) = judge(groups) else {
         return println!(rt; "refused");
     };
     // A record has at most 250 bytes.
     let mut part = [0u8; 4096];
     let lent = &mut part[..size];
-    write_record(lent, day_first, STAMP, table, groups);
+    let moment = Moment {
+        table,
+        stamp: STAMP,
+        day_first,
+    };
+    moment.write_record(lent, groups);
     write_line(rt, lent)
 }
 
 // Writes the record of a single group, at a place counted from 0.
 fn show_group(
     rt: &impl Print,
-    table: &[u8],
+    table: &[u8; TABLE_BYTES],
     place: usize,
     point: u16,
     count: u16,
     day_first: bool,
 ) -> io::Result<()>
-    requires { (length table.now ≡ table_bytes) × (place < 16) }
+    requires { place < 16 }
 {
     let mut groups = [0u16; 32];
     groups[2 * place] = point;
@@ -92,8 +85,8 @@ fn show_group(
 }
 
 // Every number of Booleans from point 1801 + a on.
-fn booleans_from(rt: &impl Print, table: &[u8], a: u16) -> io::Result<()>
-    requires { (length table.now ≡ table_bytes) × (a < 128) }
+fn booleans_from(rt: &impl Print, table: &[u8; TABLE_BYTES], a: u16) -> io::Result<()>
+    requires { a < 128 }
 {
     for n in 1..=128 - a {
         show_group(rt, table, 0, 1801 + a, n, false)?;
@@ -102,9 +95,7 @@ fn booleans_from(rt: &impl Print, table: &[u8], a: u16) -> io::Result<()>
 }
 
 // Every group of Booleans that starts in the table's first byte; then, from each later point, the group to the last Boolean.
-fn booleans(rt: &impl Print, table: &[u8]) -> io::Result<()>
-    requires { length table.now ≡ table_bytes }
-{
+fn booleans(rt: &impl Print, table: &[u8; TABLE_BYTES]) -> io::Result<()> {
     for a in 0..8 {
         booleans_from(rt, table, a)?;
     }
@@ -115,9 +106,7 @@ fn booleans(rt: &impl Print, table: &[u8]) -> io::Result<()>
 }
 
 // Groups of the other kinds at the last place: as many points as a record or the row holds, then the last point of each row.
-fn last_place(rt: &impl Print, table: &[u8]) -> io::Result<()>
-    requires { length table.now ≡ table_bytes }
-{
+fn last_place(rt: &impl Print, table: &[u8; TABLE_BYTES]) -> io::Result<()> {
     show_group(rt, table, 15, 3001, 64, true)?;
     show_group(rt, table, 15, 4001, 30, true)?;
     show_group(rt, table, 15, 5101, 61, true)?;
@@ -131,9 +120,7 @@ fn last_place(rt: &impl Print, table: &[u8]) -> io::Result<()>
 }
 
 // The mixed groups, and no groups at all, in both date orders.
-fn definitions(rt: &impl Print, table: &[u8]) -> io::Result<()>
-    requires { length table.now ≡ table_bytes }
-{
+fn definitions(rt: &impl Print, table: &[u8; TABLE_BYTES]) -> io::Result<()> {
     let mixed = MIXED;
     show_record(rt, table, &mixed, false)?;
     show_record(rt, table, &mixed, true)?;
@@ -145,54 +132,54 @@ fn definitions(rt: &impl Print, table: &[u8]) -> io::Result<()>
 // Writes one alarm record in a line.
 fn alarm_line(
     rt: &impl Print,
-    table: &[u8],
-    point: u16,
-    alarm_type: u8,
-    new: bool,
-    transducer_point: u16,
+    table: &[u8; TABLE_BYTES],
+    event: Event,
     day_first: bool,
 ) -> io::Result<()>
-    requires table_len { length table.now ≡ table_bytes }
-    requires transducer_taken { float_or_none transducer_point ≡ true }
+    requires { float_or_none event.transducer ≡ true }
 {
     let mut part = [0u8; 22];
-    write_alarm(
-        &mut part,
-        day_first,
-        STAMP,
+    let moment = Moment {
         table,
-        point,
-        alarm_type,
-        new,
-        transducer_point,
-    );
+        stamp: STAMP,
+        day_first,
+    };
+    moment.write_alarm(&mut part, event);
     write_line(rt, &part)
 }
 
 // Writes one alarm record month first, then day first.
-fn show_alarm(
-    rt: &impl Print,
-    table: &[u8],
-    point: u16,
-    alarm_type: u8,
-    new: bool,
-    transducer_point: u16,
-) -> io::Result<()>
-    requires table_len { length table.now ≡ table_bytes }
-    requires transducer_taken { float_or_none transducer_point ≡ true }
+fn show_alarm(rt: &impl Print, table: &[u8; TABLE_BYTES], event: Event) -> io::Result<()>
+    requires { float_or_none event.transducer ≡ true }
 {
-    alarm_line(rt, table, point, alarm_type, new, transducer_point, false)?;
-    alarm_line(rt, table, point, alarm_type, new, transducer_point, true)
+    alarm_line(rt, table, event, false)?;
+    alarm_line(rt, table, event, true)
 }
 
 // A first and a last Boolean and one between them, with a first and a last float point and none.
 #[tactic(auto, unfolding(points::specs::Table::float_or_none, points::specs::Table::in_row,))]
-fn alarms(rt: &impl Print, table: &[u8]) -> io::Result<()>
-    requires { length table.now ≡ table_bytes }
-{
-    show_alarm(rt, table, 1801, 0, true, 7101)?;
-    show_alarm(rt, table, 1928, 3, false, 0)?;
-    show_alarm(rt, table, 1850, 2, true, 7228)
+fn alarms(rt: &impl Print, table: &[u8; TABLE_BYTES]) -> io::Result<()> {
+    let first = Event {
+        point: 1801,
+        kind: 0,
+        new: true,
+        transducer: 7101,
+    };
+    let last = Event {
+        point: 1928,
+        kind: 3,
+        new: false,
+        transducer: 0,
+    };
+    let between = Event {
+        point: 1850,
+        kind: 2,
+        new: true,
+        transducer: 7228,
+    };
+    show_alarm(rt, table, first)?;
+    show_alarm(rt, table, last)?;
+    show_alarm(rt, table, between)
 }
 
 // The live table, and over it the Booleans, the other kinds, whole definitions and alarm records.

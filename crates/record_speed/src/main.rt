@@ -3,64 +3,62 @@
 // of one byte of each record, so that no write is idle; tests/bench/expected.py works out the sum apart from it.
 #![tactic(auto)]
 
+ghost use Rattle.std.specs.Prelude.{◌≡◌, length};
 ghost use Rattle.points.specs.Groups.{record_size};
-ghost use Rattle.records.specs.Lent.{LentDefinition};
 
-use points::Judged;
 use points::groups::judge;
-use records::record::write_record;
+use points::table::TABLE_BYTES;
+use records::moment::Moment;
 use records::stamp::Stamp;
 use std::io::{self, Read};
 
 const RECORDS: u32 = 2_000_000;
 
+// 29 August 2007 11:36:52.
+const STAMP: Stamp = Stamp {
+    month: 8,
+    day: 29,
+    year: 7,
+    hour: 11,
+    minute: 36,
+    second: 52,
+};
+
 // Writes the records; a byte of the table changes before each.
 #[tactic(auto, unfolding(points::specs::Groups::record_size))]
-fn run(part: &mut [u8], table: &mut [u8], groups: &[u16]) -> u64
-    requires { LentDefinition (record_size groups.now) part.old table.old groups.now }
+fn run(part: &mut [u8], table: &mut [u8; TABLE_BYTES], groups: &[u16; 32]) -> u64
+    requires { length part.old ≡ record_size groups.now }
 {
-    let stamp = Stamp {
-        month: 8,
-        day: 29,
-        year: 7,
-        hour: 11,
-        minute: 36,
-        second: 52,
-    };
     let size = part.len();
     let mut sum: u64 = 0;
     for i in 0..RECORDS {
         let byte = (i % 256) as u8;
         table[1] = byte;
         table[700] = byte;
-        write_record(part, false, stamp, table, groups);
+        let moment = Moment {
+            table: &*table,
+            stamp: STAMP,
+            day_first: false,
+        };
+        moment.write_record(part, groups);
         let at = (i as usize) % size;
-        sum = (sum + (part[at] as u64)) % 4_294_967_296;
+        sum = (sum + u64::from(part[at])) % 4_294_967_296;
     }
     sum
 }
 
 // Judges the definition and lends a part of its record's size.
-fn run_judged(buffer: &mut [u8], table: &mut [u8], groups: &[u16]) -> u64 {
-    if table.len() != 1424 {
-        return 0;
-    }
+fn run_judged(buffer: &mut [u8], table: &mut [u8; TABLE_BYTES], groups: &[u16; 32]) -> u64 {
     match judge(groups) {
-        Judged::BadGroup(_) => 0,
-        Judged::Long => 0,
-        Judged::Good(size) => {
-            if buffer.len() < size {
-                return 0;
-            }
-            run(&mut buffer[..size], table, groups)
-        }
+        Ok(size) if size <= buffer.len() => run(&mut buffer[..size], table, groups),
+        _ => 0,
     }
 }
 
 // The records of one group, which stands at the first place.
 fn run_group(point: u16, count: u16) -> u64 {
     let mut buffer = [0u8; 256];
-    let mut table = [0u8; 1424];
+    let mut table = [0u8; TABLE_BYTES];
     let mut groups = [0u16; 32];
     groups[0] = point;
     groups[1] = count;

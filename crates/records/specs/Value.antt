@@ -1,5 +1,5 @@
--- Demand 2: the value of a point captured, made of a live table and of a captured stretch. A value is made from the point's own bytes, by
--- kind; the value of a text is the cleaned text (document 02, L5).
+-- The value of a point captured, made of a live table and of a captured stretch. A value is made from the point's own bytes, by kind; the
+-- value of a text is the cleaned text.
 use Rattle.std.specs.Prelude.{List, [], ◌∷◌, Bool, cond, ℕ, ◌-◌, ◌*◌, ◌^◌, eqb, ltb, ℤ, pos, ◌-ℤ◌, get_or, take, drop}
 use Rattle.modbus.specs.Word.{number_of}
 use Rattle.points.specs.declared.table.Kind.{Kind}

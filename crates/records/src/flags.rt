@@ -1,5 +1,5 @@
-// Booleans repacked from the live table's alignment to the group's own, document 01, "Records".
-ghost use Rattle.std.specs.Prelude.{◌≡◌, ◌+◌, ◌/◌, ◌%◌, ◌^◌, ◌<◌, ◌≤◌, min, length};
+// Booleans repacked from the live table's alignment to the group's own.
+ghost use Rattle.std.specs.Prelude.{◌≡◌, ◌+◌, ◌/◌, ◌%◌, ◌^◌, ◌<◌, ◌≤◌, length};
 ghost use Rattle.basics.specs.Lists.{tabulate};
 ghost use Rattle.points.specs.Table.{packed_size};
 ghost use Rattle.records.specs.Capture.{from_bits, flags, packed_byte};
@@ -21,17 +21,8 @@ fn window(table: &[u8], offset: usize, at: usize, m: u16) -> u8
 {
     let byte = offset + at / 8;
     let shift = (at % 8) as u16;
-    let word = (table[byte] as u16) | ((table[byte + 1] as u16) << 8);
+    let word = u16::from(table[byte]) | (u16::from(table[byte + 1]) << 8);
     low_bits(word >> shift, m)
-}
-
-fn at_most_8(left: usize) -> u16
-    ensures { result ≡ min 8 left }
-{
-    if left < 8 {
-        return left as u16;
-    }
-    8
 }
 
 // Writes n Booleans from number `first` of the row at byte `offset` on, eight to a byte, into a part of their size.
@@ -39,9 +30,8 @@ pub fn write_flags(part: &mut [u8], table: &[u8], offset: usize, first: usize, n
     requires { LentFlags part.old table.now offset first n }
     ensures { part.new ≡ tabulate (packed_size n) (packed_byte (flags table.now offset first n)) }
 {
-    let mut i: usize = 0;
-    while i < part.len() {
-        part[i] = window(table, offset, first + 8 * i, at_most_8(n - 8 * i));
-        i += 1;
+    for (i, byte) in part.iter_mut().enumerate() {
+        let left = n - 8 * i;
+        *byte = window(table, offset, first + 8 * i, left.min(8) as u16);
     }
 }

@@ -13,7 +13,7 @@ use crate::firmware::{alarm_depth, is_firmware_good};
 use crate::parts::{Files, Flags, Settings, Site};
 use archive::alarms::Slot;
 use archive::layout::{ALARM_FILE, Definitions, FILES, File, end_of};
-use points::groups::{Judged, judge};
+use points::groups::judge;
 use points::table::{is_boolean_or_none, is_float_or_none};
 
 impl Site {
@@ -79,11 +79,7 @@ fn are_slots_good(slots: &[Slot; 32]) -> bool
 fn is_definition_good(groups: &[u16; 32]) -> bool
     ensures { result ≡ is_good groups.now }
 {
-    match judge(groups) {
-        Judged::Good(_) => true,
-        Judged::BadGroup(_) => false,
-        Judged::Long => false,
-    }
+    judge(groups).is_ok()
 }
 
 // Whether two definitions are the same. The loop looks at all numbers, so that it runs many at a time: `==` ends at the first that

@@ -3,4 +3,4 @@ use Rattle.std.proofs.Common.{◌≡◌, ◌≤◌}
 use Rattle.frames.proofs.flipped.Given as goal
 
 abbrev pub invariant-loop-bit : goal.invariant-loop-bit
-invariant-loop-bit l = (l.t.tried ≡ l.bit) × (l.t.refused ≤ l.t.tried)
+invariant-loop-bit l = (l.tally.tried ≡ l.bit) × (l.tally.refused ≤ l.tally.tried)

@@ -13,10 +13,4 @@ slice_bounds-lent-end g c = sym (length-take-le _ _ (omega (arith, (judged-good 
 pub write_record-requires : goal.write_record-requires
 write_record-requires g c =
     let good = judged-good _ _ (sym c.in-Good.ensures) in
-    record {
-      lent = record {
-        sized = length-take-le _ _ (omega (arith, good.most)) ∙ good.sized;
-        whole = c.requires;
-      };
-      definition = good.list;
-    }
+    length-take-le _ _ (omega (arith, good.most)) ∙ good.sized

@@ -7,10 +7,4 @@ use Rattle.record_speed.proofs.run_judged.Goals as goal
 pub run-requires : goal.run-requires
 run-requires c =
     let good = judged-good _ _ (sym c.in-Good.ensures) in
-    record {
-      lent = record {
-        sized = length-take-le _ _ c.if-buffer-size.false ∙ good.sized;
-        whole = c.if-table-ne1424.false;
-      };
-      definition = good.list;
-    }
+    length-take-le _ _ c.if-buffer-size.false ∙ good.sized

@@ -11,26 +11,26 @@ use Rattle.modbus.specs.Crc.{crc_shift, crc_shifts, crc_from, crc_of}
 use Rattle.modbus.proofs.Steps.{step-at, step_fits, byte-by-step}
 use Rattle.modbus.proofs.crc.crc_of.Goals as goal
 
-pub loop-i-init : goal.loop-i-init
+pub loop-byte-init : goal.loop-byte-init
 unfolding crc_of tabulate crc_shift crc_shifts
-loop-i-init c = record { at = omega arith; small = omega arith; large = omega arith; rest = refl; table = refl }
+loop-byte-init c = record { small = omega arith; large = omega arith; rest = refl; table = refl }
 
-pub loop-i-preserved : goal.loop-i-preserved
+pub loop-byte-preserved : goal.loop-byte-preserved
 unfolding crc_from
-loop-i-preserved c =
-    let now = c.loop-i in
+loop-byte-preserved c =
+    let now = c.loop-byte in
     let s = c.args.s.now in
-    let b = get_or s now.i 0 in
-    let more : now.i < length s = c.loop-i-test.true in
-    let byte : b < 256 = omega (arith, c.type_inv.s now.i) in
+    let b = get_or s now.byte-index 0 in
+    let more : now.byte-index < length s = c.loop-byte-test.true in
+    let byte : b < 256 = omega (arith, c.type_inv.s now.byte-index) in
     let inside : bit_xor now.low b < 256 = search (rules, xor_lt 8) in
-    let is = step-at _ (bit_xor now.low b) now.invariant.table inside in
-    let turn = byte-by-step now.low now.high b _ now.invariant.small now.invariant.large byte is in
+    let entry = rw c.from.ensures at c.from-step.ensures in
+    let is = rw (step-at _ (bit_xor now.low b) now.invariant.table inside) at entry in
+    let turn = byte-by-step now.low now.high b c.from-step.result now.invariant.small now.invariant.large byte is in
     record {
-      at = omega arith;
       small = xor_lt 8 now.high _ now.invariant.large (omega arith);
-      large = omega (arith, step_fits _ (bit_xor now.low b) now.invariant.table inside);
-      rest = rw (add-one, turn) (rw (drop-cons s now.i 0 more) at now.invariant.rest);
+      large = omega (arith, entry, step_fits _ (bit_xor now.low b) now.invariant.table inside);
+      rest = rw (add-one, turn) (rw (drop-cons s now.byte-index 0 more) at now.invariant.rest);
       table = now.invariant.table;
     }
 
@@ -38,5 +38,5 @@ pub returns : goal.returns
 unfolding crc_from
 returns c =
     let s = c.args.s.now in
-    let end : length s ≤ c.loop-i.i = c.loop-i-test.false in
-    rw (drop_of_length-le s end) at c.loop-i.invariant.rest
+    let end : length s ≤ c.loop-byte.byte-index = c.loop-byte-test.false in
+    rw (drop_of_length-le s end) at c.loop-byte.invariant.rest

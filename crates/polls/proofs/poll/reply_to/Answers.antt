@@ -1,79 +1,74 @@
-use mathlib.Core.Path.{refl, sym, ap, ◌∙◌, subst}
-use native.Mathlib.Omega.{arith}
+use mathlib.Core.Path.{◌≡◌, sym, ap, ◌∙◌, subst}
+use borrow.Author.Rules.{rules}
 use lib.ListN.{take, drop}
-use lib.Seq.{take-take}
-use Rattle.modbus.specs.Frame.{read_reply, Sent}
-use Rattle.archive.specs.Layout.{layout_from, limit_of}
+use Rattle.std.specs.Prelude.{Ok}
+use Rattle.modbus.specs.Frame.{read_reply, exception_reply, function_of, Sent}
+use Rattle.archive.specs.Lent.{file_in}
 use Rattle.archive.specs.Ring.{record_place}
-use Rattle.archive.proofs.Layouts.{size-within}
-use Rattle.polls.specs.View.{archive_view}
-use Rattle.polls.specs.Frames.{register, reply_of}
-use Rattle.polls.specs.Lent.{register_view, LentRecord, Passed}
-use Rattle.polls.proofs.Laws.{registers-by, record-lent}
+use Rattle.polls.specs.declared.request.Asked.TheVariants.{Record, Registers, LivePoints, SetRequested}
+use Rattle.polls.specs.View.{view_of, limit_in}
+use Rattle.polls.specs.Frames.{reply_of}
+use Rattle.polls.specs.Lent.{LentRecord, Passed}
+use Rattle.polls.proofs.Laws.{record_lent, part-sent}
 use Rattle.polls.proofs.poll.reply_to.Goals as goal
 
 pub send_record-requires : goal.send_record-requires
 send_record-requires c =
     let a = c.args in
-    let pre = c.requires in
-    let number = subst (Passed (limit_of (layout_from a.groups.now a.limits.now a.depth))) c.in-WholeRecord.is pre.lent_asked.passed in
-    subst (λ x. LentRecord x c.in-WholeRecord.k x.size a.archive.now a.buffer.now) (sym c.file_at-file.ensures)
-    (record-lent _ _ _ _ _ _ _ _ _ c.in-WholeRecord.f c.in-WholeRecord.k _ pre.lent_poll number (omega arith))
+    let it = c.in-Ok-Record in
+    let files = a.view.now.files.now in
+    let is : a.asked ≡ Ok (Record it.file it.number it.part) = search rules in
+    let number = subst (Passed (limit_in files)) is c.requires.lent_asked.passed in
+    subst (λ n. LentRecord (file_in files it.file) it.number n a.view.now.archive.now a.buffer.now) (sym c.sent_size-size.ensures)
+    (record_lent files a.view.now.archive.now a.buffer.now it.file it.number it.part c.requires.lent_poll number)
 
-pub send_record-requires-in-StampOnly : goal.send_record-requires-in-StampOnly
-send_record-requires-in-StampOnly c =
-    let a = c.args in
-    let pre = c.requires in
-    let number = subst (Passed (limit_of (layout_from a.groups.now a.limits.now a.depth))) c.in-StampOnly.is pre.lent_asked.passed in
-    subst (λ x. LentRecord x c.in-StampOnly.k 6 a.archive.now a.buffer.now) (sym c.file_at-file-in-StampOnly.ensures)
-    (record-lent _ _ _ _ _ _ _ _ _ c.in-StampOnly.f c.in-StampOnly.k _ pre.lent_poll number (size-within (layout_from a.groups.now a.limits.now a.depth) c.in-StampOnly.f pre.lent_poll.layout.good).0)
-
-pub returns-in-Exception : goal.returns-in-Exception
+pub returns-in-Err : goal.returns-in-Err
 unfolding reply_of
-returns-in-Exception c =
+returns-in-Err c =
     let a = c.args in
     let sent = c.write_exception in
-    subst (λ x. Sent (reply_of (archive_view a.unit (layout_from a.groups.now a.limits.now a.depth) a.pointers.now a.requested.now a.archive.now a.table.now) a.frame.now x) a.buffer.now sent.result sent.new.buffer) (sym c.in-Exception.is) sent.ensures
+    subst (λ x. Sent (reply_of (view_of a.view.now) a.frame.now x) a.buffer.now sent.result sent.new.buffer) (sym c.in-Err.is)
+    (subst (λ code. Sent (exception_reply a.view.now.unit (function_of a.frame.now) code) a.buffer.now sent.result sent.new.buffer) c.from.ensures sent.ensures)
 
-pub returns-in-WholeRecord : goal.returns-in-WholeRecord
+pub returns-in-Ok-Record : goal.returns-in-Ok-Record
 unfolding reply_of
-returns-in-WholeRecord c =
+returns-in-Ok-Record c =
     let a = c.args in
+    let it = c.in-Ok-Record in
+    let files = a.view.now.files.now in
+    let file = file_in files it.file in
+    let is : a.asked ≡ Ok (Record it.file it.number it.part) = search rules in
     let sent = c.send_record in
-    subst (λ x. Sent (reply_of (archive_view a.unit (layout_from a.groups.now a.limits.now a.depth) a.pointers.now a.requested.now a.archive.now a.table.now) a.frame.now x) a.buffer.now sent.result sent.new.buffer) (sym c.in-WholeRecord.is)
-    (subst (λ x. Sent (read_reply a.unit (take x.size (drop (record_place x.from x.size c.in-WholeRecord.k) a.archive.now))) a.buffer.now sent.result sent.new.buffer)
-    c.file_at-file.ensures sent.ensures)
-
-pub returns-in-StampOnly : goal.returns-in-StampOnly
-unfolding reply_of
-returns-in-StampOnly c =
-    let a = c.args in
-    let sent = c.send_record-in-StampOnly in
-    let least = (size-within (layout_from a.groups.now a.limits.now a.depth) c.in-StampOnly.f c.requires.lent_poll.layout.good).0 in
-    subst (λ x. Sent (reply_of (archive_view a.unit (layout_from a.groups.now a.limits.now a.depth) a.pointers.now a.requested.now a.archive.now a.table.now) a.frame.now x) a.buffer.now sent.result sent.new.buffer) (sym c.in-StampOnly.is)
-    (subst (λ bytes. Sent (read_reply a.unit bytes) a.buffer.now sent.result sent.new.buffer)
-    (ap (λ x. take 6 (drop (record_place x.from x.size c.in-StampOnly.k) a.archive.now)) c.file_at-file-in-StampOnly.ensures ∙ sym (take-take 6 _ _ least))
+    let number = subst (Passed (limit_in files)) is c.requires.lent_asked.passed in
+    subst (λ x. Sent (reply_of (view_of a.view.now) a.frame.now x) a.buffer.now sent.result sent.new.buffer) (sym is)
+    (subst (λ bytes. Sent (read_reply a.view.now.unit bytes) a.buffer.now sent.result sent.new.buffer)
+    (ap (λ n. take n (drop (record_place file.from file.size it.number) a.view.now.archive.now)) c.sent_size-size.ensures
+    ∙ part-sent it.part file.size _ (c.requires.lent_poll.stamped it.file number.file))
     sent.ensures)
 
-pub returns-in-Registers : goal.returns-in-Registers
-unfolding reply_of register limit_of
-returns-in-Registers c =
+pub returns-in-Ok-Registers : goal.returns-in-Ok-Registers
+unfolding reply_of
+returns-in-Ok-Registers c =
     let a = c.args in
+    let it = c.in-Ok-Registers in
+    let is : a.asked ≡ Ok (Registers it.first it.count) = search rules in
     let sent = c.send_registers in
-    subst (λ x. Sent (reply_of (archive_view a.unit (layout_from a.groups.now a.limits.now a.depth) a.pointers.now a.requested.now a.archive.now a.table.now) a.frame.now x) a.buffer.now sent.result sent.new.buffer) (sym c.in-Registers.is)
-    (subst (λ bytes. Sent (read_reply a.unit bytes) a.buffer.now sent.result sent.new.buffer)
-    (registers-by (register_view a.limits.now a.depth a.pointers.now a.requested.now) (archive_view a.unit (layout_from a.groups.now a.limits.now a.depth) a.pointers.now a.requested.now a.archive.now a.table.now) c.in-Registers.first c.in-Registers.count (λ j below. refl)) sent.ensures)
+    subst (λ x. Sent (reply_of (view_of a.view.now) a.frame.now x) a.buffer.now sent.result sent.new.buffer) (sym is) sent.ensures
 
-pub returns-in-LivePoints : goal.returns-in-LivePoints
+pub returns-in-Ok-LivePoints : goal.returns-in-Ok-LivePoints
 unfolding reply_of
-returns-in-LivePoints c =
+returns-in-Ok-LivePoints c =
     let a = c.args in
+    let it = c.in-Ok-LivePoints in
+    let is : a.asked ≡ Ok (LivePoints it.row it.point it.count) = search rules in
     let sent = c.send_points in
-    subst (λ x. Sent (reply_of (archive_view a.unit (layout_from a.groups.now a.limits.now a.depth) a.pointers.now a.requested.now a.archive.now a.table.now) a.frame.now x) a.buffer.now sent.result sent.new.buffer) (sym c.in-LivePoints.is) sent.ensures
+    subst (λ x. Sent (reply_of (view_of a.view.now) a.frame.now x) a.buffer.now sent.result sent.new.buffer) (sym is) sent.ensures
 
-pub returns-in-SetRequested : goal.returns-in-SetRequested
+pub returns-in-Ok-SetRequested : goal.returns-in-Ok-SetRequested
 unfolding reply_of
-returns-in-SetRequested c =
+returns-in-Ok-SetRequested c =
     let a = c.args in
+    let it = c.in-Ok-SetRequested in
+    let is : a.asked ≡ Ok (SetRequested it.field-0-0 it.field-0-1) = search rules in
     let sent = c.send_echo in
-    subst (λ x. Sent (reply_of (archive_view a.unit (layout_from a.groups.now a.limits.now a.depth) a.pointers.now a.requested.now a.archive.now a.table.now) a.frame.now x) a.buffer.now sent.result sent.new.buffer) (sym c.in-SetRequested.is) sent.ensures
+    subst (λ x. Sent (reply_of (view_of a.view.now) a.frame.now x) a.buffer.now sent.result sent.new.buffer) (sym is) sent.ensures

@@ -9,7 +9,7 @@ use Rattle.polls.proofs.reply.send_points.Goals as goal
 pub returns : goal.returns
 returns c =
     let a = c.args in
-    let sized = c.points_size-size in
+    let sized = c.bytes-size in
     let write = c.write_points in
     let close = c.close_read_reply in
     let long = length-captured a.table.now (Points a.row) a.point a.count ∙ sym sized.ensures in

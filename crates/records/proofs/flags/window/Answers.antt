@@ -1,4 +1,4 @@
-use mathlib.Core.Path.{◌≡◌, sym, ap, ◌∙◌}
+use mathlib.Core.Path.{◌≡◌, sym, ap, ap₂, ◌∙◌}
 use Prim.Native.Nat.{◌+◌, ◌/◌, ◌*◌, ◌%◌, ◌^◌, ◌<◌}
 use native.Mathlib.Omega.{arith}
 use lib.Bits.{bit_or, or_shifted_r}
@@ -21,6 +21,7 @@ returns c =
     let joined : bit_or (get_or t byte 0) (get_or t (byte + 1) 0 * 2 ^ 8 % 2 ^ 16) ≡ get_or t (byte + 1) 0 * 2 ^ 8 + get_or t byte 0
     = rw (shl_exact {a = get_or t (byte + 1) 0} 8 8 16 high (omega arith)) (or_shifted_r (get_or t (byte + 1) 0) 8 (get_or t byte 0) low) in
     c.low_bits.ensures
+    ∙ ap₂ (λ low high. bit_or low (high * 2 ^ 8 % 2 ^ 16) / 2 ^ (a.at % 8) % 2 ^ a.m) c.from.ensures c.from-2.ensures
     ∙ ap (λ w. w / 2 ^ (a.at % 8) % 2 ^ a.m) joined
     ∙ sym (bits_of ((get_or t (byte + 1) 0 * 2 ^ 8 + get_or t byte 0) / 2 ^ (a.at % 8)) a.m)
     ∙ ap from_bits (tabulate-ext a.m _ _ (λ j h. window-bit t a.offset a.at j low (omega arith)))

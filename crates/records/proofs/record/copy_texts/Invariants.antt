@@ -1,5 +1,5 @@
 use mathlib.Core.Path.{◌≡◌}
-use Prim.Native.Nat.{ℕ, ◌-◌, ◌≤◌}
+use Prim.Native.Nat.{ℕ}
 use mathlib.Core.List.{List}
 use lib.ListN.{length, get_or}
 use Rattle.basics.proofs.Lists.{filled}
@@ -10,7 +10,4 @@ abbrev pub clean_at : List ℕ → ℕ → ℕ
 clean_at texts i = text_byte (get_or texts i 0)
 
 abbrev pub invariant-loop-i : goal.invariant-loop-i
-invariant-loop-i l = (l.i ≤ length l.initial.part) × (length l.part ≡ length l.initial.part) × (l.part ≡ filled (clean_at l.texts) l.initial.part l.i)
-
-abbrev pub decreases-loop-i : goal.decreases-loop-i
-decreases-loop-i l = length l.initial.part - l.i
+invariant-loop-i l = (length l.part ≡ length l.fn.part) × (l.part ≡ filled (clean_at l.texts) l.fn.part l.i)

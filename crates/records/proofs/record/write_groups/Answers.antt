@@ -13,7 +13,7 @@ use Rattle.records.proofs.record.write_groups.Goals as goal
 
 pub loop-g-init : goal.loop-g-init
 unfolding groups_size captured_groups
-loop-g-init c = (omega arith, refl, refl, refl)
+loop-g-init c = (refl, refl, refl)
 
 pub write_place-at-requires : goal.write_place-at-requires
 write_place-at-requires c =
@@ -22,9 +22,7 @@ write_place-at-requires c =
     let next = groups-size-next gs at.g in
     let most = groups-size-mono gs (at.g + 1) 16 (omega arith) in
     record {
-      fits = omega (arith, next, most, c.requires.lent.sized, at.invariant.1, at.invariant.2);
-      whole = c.requires.lent.whole;
-      definition = c.requires.definition;
+      fits = omega (arith, next, most, c.requires, at.invariant.0, at.invariant.1);
       place = c.loop-g-test.true;
     }
 
@@ -38,10 +36,9 @@ loop-g-preserved c =
     let long = length-captured t (group_at gs at.g) (first_point_at gs at.g) (count_at gs at.g) in
     let next = groups-size-next gs at.g in
     let most = groups-size-mono gs (at.g + 1) 16 (omega arith) in (
-      omega arith,
-      c.write_place-at.auto.part ∙ at.invariant.1,
-      omega (arith, place.ends, next, at.invariant.2),
+      c.write_place-at.auto.part ∙ at.invariant.0,
+      omega (arith, place.ends, next, at.invariant.1),
       ap (take c.write_place-at.result) place.written
-          ∙ take-pasted at.part ys at.at c.write_place-at.result (omega (arith, long, next, most, c.requires.lent.sized, at.invariant.1, at.invariant.2)) (omega (arith, place.ends, long))
-          ∙ ap (λ l. l ++ ys) at.invariant.3 ∙ sym (groups-next t gs at.g),
+          ∙ take-pasted at.part ys at.at c.write_place-at.result (omega (arith, long, next, most, c.requires, at.invariant.0, at.invariant.1)) (omega (arith, place.ends, long))
+          ∙ ap (λ l. l ++ ys) at.invariant.2 ∙ sym (groups-next t gs at.g),
     )

@@ -1,12 +1,8 @@
 use mathlib.Core.Path.{◌≡◌}
-use Prim.Native.Nat.{◌-◌, ◌≤◌}
 use lib.ListN.{length, take}
 use Rattle.records.specs.Record.{captured_groups}
 use Rattle.points.specs.Groups.{groups_size}
 use Rattle.records.proofs.record.write_groups.Given as goal
 
 abbrev pub invariant-loop-g : goal.invariant-loop-g
-invariant-loop-g l = (l.g ≤ 16) × (length l.part ≡ length l.initial.part) × (l.at ≡ groups_size l.groups l.g) × (take l.at l.part ≡ captured_groups l.table l.groups l.g)
-
-abbrev pub decreases-loop-g : goal.decreases-loop-g
-decreases-loop-g l = 16 - l.g
+invariant-loop-g l = (length l.part ≡ length l.fn.part) × (l.at ≡ groups_size l.groups l.g) × (take l.at l.part ≡ captured_groups l.table l.groups l.g)

@@ -22,7 +22,7 @@ returns-then-is_text c =
     let is = sym c.if-is_text.true ∙ c.is_text.ensures in
     c.copy_texts.ensures ∙ written c.args.kind c.args.table.now c.args.from (length c.args.part.now) _ is c.requires
 
-pub returns : goal.returns
-returns c =
+pub returns-else-is_text : goal.returns-else-is_text
+returns-else-is_text c =
     let is = sym c.if-is_text.false ∙ c.is_text.ensures in
-    c.copy_bytes.ensures ∙ written c.args.kind c.args.table.now c.args.from (length c.args.part.now) _ is c.requires
+    c.copy_from_slice.ensures.after ∙ written c.args.kind c.args.table.now c.args.from (length c.args.part.now) _ is c.requires
