@@ -1,5 +1,6 @@
 -- Lists that the definitions of several crates share: one by a rule for each place, one written over, lists of bytes, two tests.
 use Rattle.std.specs.Prelude.{List, [], ◌∷◌, ◌++◌, Bool, true, false, ◌&&◌, ℕ, zero, suc, ◌+◌, ◌<◌, eqb, length, get_or, take, drop}
+use Rattle.std.specs.List.{list_all}
 
 -- f 0, f 1, .., f (n - 1)
 unfoldable pub tabulate : ℕ → (ℕ → ℕ) → List ℕ
@@ -16,8 +17,7 @@ Bytes xs = (i : ℕ) → get_or xs i 0 < 256
 
 -- every number of a list is 0
 abbrev pub all_zero : List ℕ → Bool
-all_zero [] = true
-all_zero (x ∷ xs) = eqb x 0 && all_zero xs
+all_zero xs = list_all (λ x. eqb x 0) xs
 
 -- two lists are the same
 abbrev pub same : List ℕ → List ℕ → Bool

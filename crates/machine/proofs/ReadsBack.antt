@@ -10,18 +10,17 @@ use native.Mathlib.Omega.{arith}
 use borrow.Author.Tests.{eqb-true}
 use lib.ListN.{length, get_or, replicate, length-append, length-replicate}
 use lib.Seq.{take_at, take-append_seam}
-use Rattle.basics.specs.Card.{empty_no}
+use Rattle.basics.specs.declared.card.Refusal.TheVariants.{Empty}
 use Rattle.basics.specs.Lists.{all_zero}
 use Rattle.basics.proofs.Tests.{eqb_same}
 use Rattle.modbus.specs.Crc.{with_crc, ends_in_crc}
 use Rattle.modbus.specs.Frame.{good_unit, read_reply, read_reply_by}
 use Rattle.modbus.proofs.Laws.{framed-checks}
-use Rattle.std.specs.Prelude.{Ok}
+use Rattle.std.specs.Prelude.{Ok, Err}
 use Rattle.points.specs.Groups.{record_size, judged}
 use Rattle.points.proofs.Laws.{judged-done}
-use Rattle.reader.specs.declared.frame.Checked.TheVariants as Checked
 use Rattle.reader.specs.Frame.{is_reply, record_part, record_checked, reply_checked, frame_checked, stretch_checked}
-use Rattle.reader.specs.Answers.{record_answer, stretch_answer, stamp_answer, point_value}
+use Rattle.reader.specs.Answers.{record_found, stretch_found, stamp_found, record_answer, stretch_answer, stamp_answer, point_value}
 use Rattle.reader.proofs.ReadsBack.{gets_back}
 use Rattle.archive.specs.Layout.{definition, defined_files, all_files, is_good, good_files, limit_of}
 use Rattle.archive.proofs.Layouts.{every-at, size-file}
@@ -74,12 +73,12 @@ module _ (unit size : ℕ) (gs : List ℕ) (day_first : Bool) (ours : good_unit 
   unfolding is_reply
   frame-replies = simp (frame-long, eqb_same, frame-head.0, ours, frame-head.1, frame-head.2, blank-long, frame-ends)
 
-  frame-empty : frame_checked gs day_first frame ≡ Checked.Refused empty_no 0
+  frame-empty : frame_checked gs day_first frame ≡ Err Empty
   unfolding frame_checked reply_checked record_checked
   frame-empty = simp (good, frame-replies, frame-part, all-zeros size)
 
   pub tells-empty : TellsEmpty gs day_first frame
-  unfolding record_answer stamp_answer stretch_answer stretch_checked point_value
+  unfolding record_answer stamp_answer stretch_answer record_found stamp_found stretch_found stretch_checked point_value
   tells-empty = record { whole = simp frame-empty; stamp = simp frame-empty; stretch = λ g. simp frame-empty; point = λ g e. simp frame-empty }
 
 -- ---- the frame that goes out

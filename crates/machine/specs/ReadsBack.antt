@@ -1,9 +1,9 @@
 -- What was captured comes back, from end to end. A poll of record k after a list of calls sends a record that an accepted scan
 -- of the list made, and from that frame the reading end gets the scan's stamp and every point's kind and value, of a text the cleaned
 -- one; or zeros, told as Empty.
-use Rattle.std.specs.Prelude.{◌≡◌, Bool, true, ℕ, ◌<◌, length, take, replicate}
+use Rattle.std.specs.Prelude.{Err, ◌≡◌, Bool, true, ℕ, ◌<◌, length, take, replicate}
 use mathlib.Core.List.{List, [], Memᴰ}
-use Rattle.basics.specs.Card.{card, empty_no}
+use Rattle.basics.specs.declared.card.Refusal.TheVariants.{Empty}
 use Rattle.basics.specs.Lists.{Bytes}
 use Rattle.modbus.specs.Frame.{read_reply}
 use Rattle.points.specs.Table.{table_bytes}
@@ -12,7 +12,7 @@ use Rattle.records.specs.declared.stamp.Stamp.{Stamp}
 use Rattle.records.specs.Stamp.{in_range}
 use Rattle.records.specs.Record.{record_of}
 use Rattle.reader.specs.declared.answers.Value.TheVariants.{Refused}
-use Rattle.reader.specs.Answers.{part_answer, stamp_told, no_stamp, record_answer, stretch_answer, stamp_answer, point_answer, point_value}
+use Rattle.reader.specs.Answers.{part_told, stamp_told, record_answer, stretch_answer, stamp_answer, point_answer, point_value}
 use Rattle.reader.specs.ReadsBack.{GetsBack}
 use Rattle.archive.specs.Layout.{definition, defined_files}
 use Rattle.state.specs.declared.parts.State.{State}
@@ -38,10 +38,10 @@ made_by by day_first gs = record_of day_first by.stamp by.table gs
 
 -- the reading end tells Empty (15), whatever it is asked of the frame
 pub record TellsEmpty (gs : List ℕ) (day_first : Bool) (frame : List ℕ) : Type 0 where
-  pub whole : record_answer gs day_first frame ≡ part_answer (card empty_no 0) 0 0
-  pub stamp : stamp_answer gs day_first frame ≡ stamp_told (card empty_no 0) no_stamp
-  pub stretch : (g : ℕ) → stretch_answer gs day_first frame g ≡ part_answer (card empty_no 0) 0 0
-  pub point : (g e : ℕ) → point_answer (point_value gs day_first frame g e) ≡ point_answer (Refused empty_no 0)
+  pub whole : record_answer gs day_first frame ≡ part_told (Err Empty)
+  pub stamp : stamp_answer gs day_first frame ≡ stamp_told (Err Empty)
+  pub stretch : (g : ℕ) → stretch_answer gs day_first frame g ≡ part_told (Err Empty)
+  pub point : (g e : ℕ) → point_answer (point_value gs day_first frame g e) ≡ point_answer (Refused Empty)
 
 -- what the frame that was sent is, and what the reading end makes of it
 pub data ComesBack (cs : List Call) (day_first : Bool) (unit : ℕ) (gs frame : List ℕ) : Type 0 where

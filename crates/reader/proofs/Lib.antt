@@ -1,5 +1,4 @@
 -- What callers' proofs cite of this crate, and what several of its own do.
-pub mod Signed
 pub mod Laws
 pub mod Told
 pub mod ReadsBack

@@ -12,9 +12,11 @@ use native.Mathlib.Nat.{add-mul, mul-le-mul_right}
 use native.Mathlib.Omega.{arith}
 use borrow.Author.Tests.{ne_eqb, le-leb}
 use lib.Dec.{ltb}
+use Rattle.std.specs.Prelude.{Ok, Err}
 use lib.ListN.{length, get_or, take, drop, length-append}
 use lib.Seq.{take_at}
-use Rattle.basics.specs.Card.{card, done_no, garbled_no, empty_no}
+use Rattle.basics.specs.declared.card.Refusal.TheVariants.{Garbled}
+use Rattle.basics.specs.Card.{card, card_told, done_no, empty_no}
 use Rattle.basics.specs.Lists.{Bytes, all_zero}
 use Rattle.basics.specs.Numbers.{within}
 use Rattle.basics.proofs.Tests.{eqb_same}
@@ -26,7 +28,6 @@ use Rattle.points.specs.declared.table.Kind.{Kind}
 use Rattle.points.specs.declared.table.Kind.TheVariants.{Boolean, Int16, Text8, Int32, Float, Text16}
 use Rattle.points.specs.declared.table.Row.{Row}
 use Rattle.points.specs.declared.groups.Group.TheVariants.{Points}
-use Rattle.points.specs.declared.groups.Judged.TheVariants.{Good}
 use Rattle.points.specs.Table.{table_bytes, points_size}
 use Rattle.points.specs.Groups.{group_at, first_point_at, count_at, group_size, judged}
 use Rattle.points.proofs.Laws.{judged-good, group-inside, kind_size, lookup-size}
@@ -37,26 +38,24 @@ use Rattle.records.specs.Record.{record_of}
 use Rattle.records.specs.Value.{PointValue, flag, int16, int32, float, text, value_of, table_value, bytes_in_table, value_in_table, value_in_stretch}
 use Rattle.records.proofs.Laws.{length-record as record-length}
 use Rattle.records.proofs.Found.{stamp-back, record-not-zero, record-stretch, own-inside, found-value}
-use Rattle.reader.specs.declared.frame.Checked.TheVariants as Checked
-use Rattle.reader.specs.Checked.{checked_card}
 use Rattle.reader.specs.Frame.{is_reply, record_part, record_checked, reply_checked, frame_checked, stretch_checked, stretch_from, stretch_length, stretch_part}
-use Rattle.reader.specs.Answers.{answered, point_in, point_found, point_value, record_answer, stamp_answer, point_answer}
-use Rattle.reader.proofs.Laws.{place-fits, named-is, value_of_lem, flag-of}
+use Rattle.reader.specs.Answers.{answered, point_in, point_found, point_value, record_found, stamp_found, record_answer, stamp_answer, point_answer}
+use Rattle.reader.proofs.Laws.{place_inside, named-is, value_of_lem, flag-of}
 use Rattle.reader.specs.ReadsBack.{record_reply, told_by, kind_number, GetsBack}
 use Rattle.reader.proofs.Told.{numbers-tell, table_fits}
 
 -- ---- Empty is told of zeros, and only of zeros
-pub zeros-empty : (gs : List ℕ) (d : Bool) (f : List ℕ) (size : ℕ) → judged gs ≡ Good size → is_reply f size ≡ true →
-    all_zero (record_part f size) ≡ true → checked_card (frame_checked gs d f) ≡ card empty_no 0
+pub zeros-empty : (gs : List ℕ) (d : Bool) (f : List ℕ) (size : ℕ) → judged gs ≡ Ok size → is_reply f size ≡ true →
+    all_zero (record_part f size) ≡ true → card_told (frame_checked gs d f) ≡ card empty_no 0
 unfolding frame_checked reply_checked record_checked
 zeros-empty gs d f size good reply zeros = simp (good, reply, zeros)
 
-pub filled-not-empty : (gs : List ℕ) (d : Bool) (f : List ℕ) (size : ℕ) → judged gs ≡ Good size → is_reply f size ≡ true →
-    all_zero (record_part f size) ≡ false → (checked_card (frame_checked gs d f)).number ≡ empty_no → ⊥
+pub filled-not-empty : (gs : List ℕ) (d : Bool) (f : List ℕ) (size : ℕ) → judged gs ≡ Ok size → is_reply f size ≡ true →
+    all_zero (record_part f size) ≡ false → (card_told (frame_checked gs d f)).number ≡ empty_no → ⊥
 unfolding frame_checked reply_checked record_checked
 filled-not-empty gs d f size good reply filled empty = go (in_range (stamp_from d (record_part f size))) (simp (good, reply, filled) at empty)
   where
-    go : (b : Bool) → (checked_card (cond b (Checked.Good (length (record_part f size))) (Checked.Refused garbled_no 0))).number ≡ empty_no → ⊥
+    go : (b : Bool) → (card_told (cond b (Ok (length (record_part f size))) (Err Garbled))).number ≡ empty_no → ⊥
     go true e = omega arith
     go false e = omega arith
 
@@ -113,7 +112,7 @@ answered-kind t r p at = go r.kind
     go Text16 = refl
 
 module _ (unit size : ℕ) (d : Bool) (s : Stamp) (t gs : List ℕ)
-    (ours : within 1 247 unit ≡ true) (good : judged gs ≡ Good size) (table : length t ≡ table_bytes) (bytes : Bytes t) (dated : in_range s ≡ true) where
+    (ours : within 1 247 unit ≡ true) (good : judged gs ≡ Ok size) (table : length t ≡ table_bytes) (bytes : Bytes t) (dated : in_range s ≡ true) where
   long : length (record_of d s t gs) ≡ size
   long = record-length d s t gs ∙ sym (judged-good gs size good).sized
 
@@ -138,7 +137,7 @@ module _ (unit size : ℕ) (d : Bool) (s : Stamp) (t gs : List ℕ)
   unfolding is_reply
   checks = simp (reply-long, eqb_same, head.0, ours, head.1, head.2, long, ends)
 
-  frame-done : frame_checked gs d (record_reply unit d s t gs) ≡ Checked.Good size
+  frame-done : frame_checked gs d (record_reply unit d s t gs) ≡ Ok size
   unfolding frame_checked reply_checked record_checked
   frame-done = simp (good, checks, record-in, record-not-zero d s t gs dated, stamp-back d s t gs, dated, long)
 
@@ -150,12 +149,14 @@ module _ (unit size : ℕ) (d : Bool) (s : Stamp) (t gs : List ℕ)
     n : ℕ
     n = count_at gs (g - 1)
 
-    stretch-done : stretch_checked gs d (record_reply unit d s t gs) g ≡ Checked.Good size
+    stretch-done : stretch_checked gs d (record_reply unit d s t gs) g ≡ Ok size
     unfolding stretch_checked
     stretch-done = simp (frame-done, le-leb 1 g from, le-leb g 16 to, is)
 
     fits : stretch_from gs g + stretch_length gs g ≤ size
-    fits = place-fits gs g size (judged-good gs size good) from to
+    fits =
+        let sized : stretch_length gs g ≡ points_size r (count_at gs (g - 1)) = ap (λ x. group_size x (count_at gs (g - 1))) is in
+        omega (arith, sized, place_inside gs (g - 1) r (omega arith) is, (judged-good gs size good).sized)
 
     in-record : stretch_part gs (record_part (record_reply unit d s t gs) size) g ≡ captured_points t r p n
     unfolding p n
@@ -213,7 +214,7 @@ module _ (unit size : ℕ) (d : Bool) (s : Stamp) (t gs : List ℕ)
           )
 
   pub gets_back : GetsBack unit size d s t gs
-  unfolding record_answer stamp_answer p n
+  unfolding record_answer stamp_answer record_found stamp_found p n
   gets_back =
       record {
         whole = simp frame-done;

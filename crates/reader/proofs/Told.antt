@@ -21,7 +21,10 @@ use Rattle.records.specs.Value.{PointValue, flag, int16, int32, float, text, sig
 use Rattle.reader.specs.Answers.{answered, bits32, point_answer}
 use Rattle.reader.proofs.Laws.{two_bytes, four_bytes}
 use Rattle.reader.specs.ReadsBack.{told_by}
-use Rattle.reader.proofs.Signed.{high}
+
+-- a number less a power that is above it
+high : (x m : ℕ) → x ≤ m → pos x -ℤ pos (suc m) ≡ negsuc (m - x)
+high x m h = simp (lt-ltb x (suc m) (omega arith)) (ap negsuc (omega arith))
 
 -- a whole number of 32 bits, the highest of them the sign
 abbrev in32 : ℤ → Bool

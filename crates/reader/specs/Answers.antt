@@ -1,6 +1,8 @@
--- Document 01, "Reading end": the value of a point, and what the exported calls answer in numbers.
-use Rattle.std.specs.Prelude.{List, Bool, cond, ℕ, ◌+◌, ◌-◌, ◌*◌, ◌^◌, ℤ, pos, negsuc, length}
-use Rattle.basics.specs.Card.{Card, done_no, beyond_no}
+-- What the reading end finds and reads, the value of a point, and what C is told of it in numbers.
+use Rattle.std.specs.Prelude.{List, Result, Ok, Err, Bool, cond, ℕ, ◌+◌, ◌-◌, ◌*◌, ◌^◌, ℤ, pos, negsuc, length}
+use Rattle.basics.specs.declared.card.Refusal.{Refusal}
+use Rattle.basics.specs.declared.card.Refusal.TheVariants.{Beyond}
+use Rattle.basics.specs.Card.{Card, card_of, done_card, done_no}
 use Rattle.basics.specs.Numbers.{within}
 use Rattle.points.specs.declared.groups.Group.{Group}
 use Rattle.points.specs.declared.groups.Group.TheVariants.{Unused, Points, Bad}
@@ -8,14 +10,26 @@ use Rattle.points.specs.Groups.{count_at}
 use Rattle.records.specs.declared.stamp.Stamp.{Stamp}
 use Rattle.records.specs.Stamp.{stamp_from}
 use Rattle.records.specs.Value.{PointValue, flag, int16, int32, float, text, value_in_stretch}
-use Rattle.reader.specs.declared.frame.Checked.{Checked}
+use Rattle.reader.specs.declared.answers.Part.{Part}
 use Rattle.reader.specs.declared.answers.Value.{Value}
 use Rattle.reader.specs.declared.answers.Value.TheVariants.{Flag, Int16, Int32, Float, Text, Refused}
 use Rattle.reader.specs.declared.answers.PartAnswer.{PartAnswer}
 use Rattle.reader.specs.declared.answers.StampAnswer.{StampAnswer}
 use Rattle.reader.specs.declared.answers.PointAnswer.{PointAnswer}
-use Rattle.reader.specs.Checked.{checked_card}
-use Rattle.reader.specs.Frame.{record_at, frame_checked, stretch_checked, group_named, stretch_from, stretch_length, record_part, stretch_part}
+use Rattle.reader.specs.Frame.{and_then, record_at, frame_checked, stretch_checked, group_named, stretch_from, stretch_length, record_part, stretch_part}
+
+-- ---- parts of the frame, and the record's stamp
+abbrev pub part : ℕ → ℕ → Part
+part place length = record { place = place; length = length }
+
+unfoldable pub record_found : List ℕ → Bool → List ℕ → Result Part Refusal
+record_found gs d f = and_then (frame_checked gs d f) (λ size. Ok (part record_at size))
+
+unfoldable pub stretch_found : List ℕ → Bool → List ℕ → ℕ → Result Part Refusal
+stretch_found gs d f g = and_then (stretch_checked gs d f g) (λ size. Ok (part (record_at + stretch_from gs g) (stretch_length gs g)))
+
+unfoldable pub stamp_found : List ℕ → Bool → List ℕ → Result Stamp Refusal
+stamp_found gs d f = and_then (frame_checked gs d f) (λ size. Ok (stamp_from d (record_part f size)))
 
 -- ---- the value of point e of place g, both counted from 1
 -- a value as the reading end answers it; a text by its place in the frame and its length
@@ -24,56 +38,52 @@ answered (flag b) at = Flag b
 answered (int16 z) at = Int16 z
 answered (int32 z) at = Int32 z
 answered (float x) at = Float x
-answered (text bs) at = Text at (length bs)
+answered (text bs) at = Text (part at (length bs))
 
 -- point e of the stretch of a group of n points, which starts at byte `from` of the frame; Beyond where e names nothing
 abbrev pub point_in : Group → List ℕ → ℕ → ℕ → ℕ → Value
-point_in Unused stretch from n e = Refused beyond_no 0
-point_in Bad stretch from n e = Refused beyond_no 0
+point_in Unused stretch from n e = Refused Beyond
+point_in Bad stretch from n e = Refused Beyond
 point_in (Points r) stretch from n e =
-    cond (within 1 n e) (answered (value_in_stretch r stretch (e - 1)) (from + (e - 1) * r.size)) (Refused beyond_no 0)
+    cond (within 1 n e) (answered (value_in_stretch r stretch (e - 1)) (from + (e - 1) * r.size)) (Refused Beyond)
 
 -- a text's place counts the frame's bytes from 0, and so from before the record
-abbrev pub point_found : Checked → List ℕ → List ℕ → ℕ → ℕ → Value
-point_found (Checked.Good size) gs f g e =
+abbrev pub point_found : Result ℕ Refusal → List ℕ → List ℕ → ℕ → ℕ → Value
+point_found (Ok size) gs f g e =
     point_in (group_named gs g) (stretch_part gs (record_part f size) g) (record_at + stretch_from gs g) (count_at gs (g - 1)) e
-point_found (Checked.Refused number carried) gs f g e = Refused number carried
+point_found (Err refusal) gs f g e = Refused refusal
 
 unfoldable pub point_value : List ℕ → Bool → List ℕ → ℕ → ℕ → Value
 point_value gs d f g e = point_found (stretch_checked gs d f g) gs f g e
 
--- ---- the exported calls' answers, in numbers
+-- ---- what C is told, in numbers
 -- a part of the frame, by its place and its length; one refused is empty
 abbrev pub part_answer : Card → ℕ → ℕ → PartAnswer
-part_answer c from n = record { number = c.number; carried = c.carried; place = from; length = n }
+part_answer c place length = record { number = c.number; carried = c.carried; place = place; length = length }
 
-abbrev pub record_found : Checked → PartAnswer
-record_found (Checked.Good size) = part_answer (checked_card (Checked.Good size)) record_at size
-record_found (Checked.Refused number carried) = part_answer (checked_card (Checked.Refused number carried)) 0 0
+abbrev pub part_told : Result Part Refusal → PartAnswer
+part_told (Ok found) = part_answer done_card found.place found.length
+part_told (Err refusal) = part_answer (card_of refusal) 0 0
 
 unfoldable pub record_answer : List ℕ → Bool → List ℕ → PartAnswer
-record_answer gs d f = record_found (frame_checked gs d f)
-
-abbrev pub stretch_found : Checked → List ℕ → ℕ → PartAnswer
-stretch_found (Checked.Good size) gs g = part_answer (checked_card (Checked.Good size)) (record_at + stretch_from gs g) (stretch_length gs g)
-stretch_found (Checked.Refused number carried) gs g = part_answer (checked_card (Checked.Refused number carried)) 0 0
+record_answer gs d f = part_told (record_found gs d f)
 
 unfoldable pub stretch_answer : List ℕ → Bool → List ℕ → ℕ → PartAnswer
-stretch_answer gs d f g = stretch_found (stretch_checked gs d f g) gs g
+stretch_answer gs d f g = part_told (stretch_found gs d f g)
 
 -- month, day, year, hour, minute, second; zeros where it is refused
 abbrev pub no_stamp : Stamp
 no_stamp = record { month = 0; day = 0; year = 0; hour = 0; minute = 0; second = 0 }
 
-abbrev pub stamp_told : Card → Stamp → StampAnswer
-stamp_told c s = record { number = c.number; carried = c.carried; stamp = s }
+abbrev pub card_and_stamp : Card → Stamp → StampAnswer
+card_and_stamp c s = record { number = c.number; carried = c.carried; stamp = s }
 
-abbrev pub stamp_found : Checked → Bool → List ℕ → StampAnswer
-stamp_found (Checked.Good size) d f = stamp_told (checked_card (Checked.Good size)) (stamp_from d (record_part f size))
-stamp_found (Checked.Refused number carried) d f = stamp_told (checked_card (Checked.Refused number carried)) no_stamp
+abbrev pub stamp_told : Result Stamp Refusal → StampAnswer
+stamp_told (Ok s) = card_and_stamp done_card s
+stamp_told (Err refusal) = card_and_stamp (card_of refusal) no_stamp
 
 unfoldable pub stamp_answer : List ℕ → Bool → List ℕ → StampAnswer
-stamp_answer gs d f = stamp_found (frame_checked gs d f) d f
+stamp_answer gs d f = stamp_told (stamp_found gs d f)
 
 -- a whole number as 32 bits, in two's complement
 abbrev pub bits32 : ℤ → ℕ
@@ -90,5 +100,6 @@ point_answer (Flag b) = plain_answer 1 (cond b 1 0)
 point_answer (Int16 z) = plain_answer 2 (bits32 z)
 point_answer (Int32 z) = plain_answer 3 (bits32 z)
 point_answer (Float x) = plain_answer 4 x
-point_answer (Text at n) = record { number = done_no; carried = 0; kind = 5; bits = 0; place = at; length = n }
-point_answer (Refused number carried) = record { number = number; carried = carried; kind = 0; bits = 0; place = 0; length = 0 }
+point_answer (Text p) = record { number = done_no; carried = 0; kind = 5; bits = 0; place = p.place; length = p.length }
+point_answer (Refused refusal) =
+    record { number = (card_of refusal).number; carried = (card_of refusal).carried; kind = 0; bits = 0; place = 0; length = 0 }

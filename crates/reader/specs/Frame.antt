@@ -1,20 +1,21 @@
--- Document 01, "Reading end" and rows 7, 8, 14, 15 and 16 of the service card.
+-- The reply frame, the record in it, and the stretch of a place.
 -- gs is the list of group numbers, of any length; d says whether the day stands first; f is the reply frame, of any bytes.
-use Rattle.std.specs.Prelude.{List, Bool, cond, ◌&&◌, ℕ, ◌+◌, ◌-◌, eqb, length, get_or, take, drop}
-use Rattle.basics.specs.Card.{card, garbled_no, empty_no, beyond_no}
+use Rattle.std.specs.Prelude.{List, Result, Ok, Err, ◌≡◌, Bool, cond, ◌&&◌, ℕ, ◌+◌, ◌-◌, ◌≤◌, eqb, length, get_or, take, drop}
+use Rattle.basics.specs.declared.card.Refusal.{Refusal}
+use Rattle.basics.specs.declared.card.Refusal.TheVariants.{Garbled, Empty, Beyond}
 use Rattle.basics.specs.Lists.{all_zero}
 use Rattle.basics.specs.Numbers.{within}
 use Rattle.modbus.specs.Crc.{ends_in_crc}
 use Rattle.modbus.specs.Frame.{good_unit}
 use Rattle.points.specs.declared.groups.Group.{Group}
 use Rattle.points.specs.declared.groups.Group.TheVariants.{Unused, Points, Bad}
-use Rattle.points.specs.declared.groups.Judged.{Judged}
-use Rattle.points.specs.Card.{card_of}
-use Rattle.points.specs.Groups.{judged, group_at, count_at, group_size, groups_size}
+use Rattle.points.specs.Groups.{judged, group_at, count_at, group_size, groups_size, record_size}
 use Rattle.records.specs.Stamp.{in_range, stamp_from}
-use Rattle.reader.specs.declared.frame.Checked.{Checked}
-use Rattle.reader.specs.declared.frame.Checked.TheVariants.{Good}
-use Rattle.reader.specs.Checked.{refused, and_then}
+
+-- a refusal stands; else what comes next, by what was found
+abbrev pub and_then : {A B : Type 0} → Result A Refusal → (A → Result B Refusal) → Result B Refusal
+and_then (Ok found) next = next found
+and_then (Err refusal) next = Err refusal
 
 -- ---- the frame and its record
 -- a 03 reply with the right CRC, unit 1-247 and this record size, as byte count, the frame 5 bytes longer
@@ -30,24 +31,27 @@ record_at = 3
 abbrev pub record_part : List ℕ → ℕ → List ℕ
 record_part f size = take size (drop record_at f)
 
--- Empty where the record is all zeros, Garbled where its stamp is out of range; else done
-unfoldable pub record_checked : Bool → List ℕ → Checked
+-- Empty where the record is all zeros, Garbled where its stamp is out of range; else the record's size
+unfoldable pub record_checked : Bool → List ℕ → Result ℕ Refusal
 record_checked d bs =
-    cond (all_zero bs) (refused (card empty_no 0))
-    (cond (in_range (stamp_from d bs)) (Good (length bs)) (refused (card garbled_no 0)))
+    cond (all_zero bs) (Err Empty)
+    (cond (in_range (stamp_from d bs)) (Ok (length bs)) (Err Garbled))
 
 -- Garbled where the frame is no such reply
-unfoldable pub reply_checked : Bool → List ℕ → ℕ → Checked
-reply_checked d f size = cond (is_reply f size) (record_checked d (record_part f size)) (refused (card garbled_no 0))
+unfoldable pub reply_checked : Bool → List ℕ → ℕ → Result ℕ Refusal
+reply_checked d f size = cond (is_reply f size) (record_checked d (record_part f size)) (Err Garbled)
 
 -- Group and Long first, then the frame
-abbrev pub checked_by : Judged → Bool → List ℕ → Checked
-checked_by (Judged.Good size) d f = reply_checked d f size
-checked_by (Judged.BadGroup g) d f = refused (card_of (Judged.BadGroup g))
-checked_by Judged.Long d f = refused (card_of Judged.Long)
+unfoldable pub frame_checked : List ℕ → Bool → List ℕ → Result ℕ Refusal
+frame_checked gs d f = and_then (judged gs) (reply_checked d f)
 
-unfoldable pub frame_checked : List ℕ → Bool → List ℕ → Checked
-frame_checked gs d f = checked_by (judged gs) d f
+-- what is known of a definition and a frame that pass, with the record's size
+pub record Passed (gs f : List ℕ) (size : ℕ) : Type 0 where
+  pub list : length gs ≡ 32
+  pub sized : size ≡ record_size gs
+  pub least : 6 ≤ size
+  pub most : size ≤ 250
+  pub long : length f ≡ size + 5
 
 -- ---- the stretch of place g, counted from 1, unused places too
 -- the group that g names; a g that is no place names nothing, as an unused place does
@@ -55,12 +59,12 @@ abbrev pub group_named : List ℕ → ℕ → Group
 group_named gs g = cond (within 1 16 g) (group_at gs (g - 1)) Unused
 
 -- Beyond where g names nothing
-abbrev pub place_checked : Group → ℕ → Checked
-place_checked Unused size = refused (card beyond_no 0)
-place_checked Bad size = refused (card beyond_no 0)
-place_checked (Points r) size = Good size
+abbrev pub place_checked : Group → ℕ → Result ℕ Refusal
+place_checked Unused size = Err Beyond
+place_checked Bad size = Err Beyond
+place_checked (Points r) size = Ok size
 
-unfoldable pub stretch_checked : List ℕ → Bool → List ℕ → ℕ → Checked
+unfoldable pub stretch_checked : List ℕ → Bool → List ℕ → ℕ → Result ℕ Refusal
 stretch_checked gs d f g = and_then (frame_checked gs d f) (place_checked (group_named gs g))
 
 -- where the stretch of place g starts in the record, and its length

@@ -1,5 +1,4 @@
-pub mod Checked
 pub mod Frame
 pub mod Answers
-pub mod Lent
+pub mod Stretch
 pub mod ReadsBack

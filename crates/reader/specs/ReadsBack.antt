@@ -1,7 +1,7 @@
 -- What was captured comes back, as site software sees it: what the reading end's exported calls answer, in numbers, from the reply that
 -- carries a record.
-use Rattle.std.specs.Prelude.{List, ◌≡◌, Bool, cond, ℕ, ◌+◌, ◌-◌, ◌≤◌, eqb, take, drop}
-use Rattle.basics.specs.Card.{done_card, done_no}
+use Rattle.std.specs.Prelude.{List, Ok, ◌≡◌, Bool, cond, ℕ, ◌+◌, ◌-◌, ◌≤◌, eqb, take, drop}
+use Rattle.basics.specs.Card.{done_no}
 use Rattle.modbus.specs.Frame.{read_reply}
 use Rattle.points.specs.declared.table.Kind.{Kind}
 use Rattle.points.specs.declared.table.Kind.TheVariants.{Boolean, Int16, Text8, Int32, Float, Text16}
@@ -12,7 +12,7 @@ use Rattle.records.specs.declared.stamp.Stamp.{Stamp}
 use Rattle.records.specs.Record.{record_of}
 use Rattle.records.specs.Value.{PointValue, flag, int16, int32, float, text, signed, value_in_table}
 use Rattle.reader.specs.declared.answers.PointAnswer.{PointAnswer}
-use Rattle.reader.specs.Answers.{point_value, part_answer, stamp_told, record_answer, stamp_answer, point_answer}
+use Rattle.reader.specs.Answers.{part, part_told, stamp_told, point_value, record_answer, stamp_answer, point_answer}
 
 -- what a driver makes of the numbers of an answer that is done, as windrow_reader.h says; f is the frame, which has the texts
 abbrev pub told_by : List ℕ → PointAnswer → PointValue
@@ -38,9 +38,9 @@ record_reply unit d s t gs = read_reply unit (record_of d s t gs)
 
 pub record GetsBack (unit size : ℕ) (d : Bool) (s : Stamp) (t gs : List ℕ) : Type 0 where
   -- the record is the part that starts at byte 3
-  pub whole : record_answer gs d (record_reply unit d s t gs) ≡ part_answer done_card 3 size
+  pub whole : record_answer gs d (record_reply unit d s t gs) ≡ part_told (Ok (part 3 size))
   -- the stamp comes back
-  pub stamp : stamp_answer gs d (record_reply unit d s t gs) ≡ stamp_told done_card s
+  pub stamp : stamp_answer gs d (record_reply unit d s t gs) ≡ stamp_told (Ok s)
   -- at every place and point the answer is done, its kind is the row's, and its numbers tell the value that the point was captured with, of
   -- a text the cleaned one
   pub point : (g e : ℕ) (r : Row) → 1 ≤ g → g ≤ 16 → group_at gs (g - 1) ≡ Points r → 1 ≤ e → e ≤ count_at gs (g - 1) →

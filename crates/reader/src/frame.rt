@@ -1,53 +1,34 @@
-// The reply frame and the record in it, document 01, "Reading end" and rows 7, 8, 14 and 15 of the service card.
-ghost use Rattle.std.specs.Prelude.{◌≡◌, ◌+◌, ◌≤◌, length};
+// The reply frame and the record in it.
+ghost use Rattle.std.specs.Prelude.{◌≡◌, true, ◌+◌, ◌≤◌, length, IfOk};
 ghost use Rattle.basics.specs.Lists.{all_zero};
-ghost use Rattle.reader.specs.Frame.{is_reply, record_part, record_checked, reply_checked, frame_checked};
+ghost use Rattle.reader.specs.Frame.{is_reply, record_part, record_checked, reply_checked, frame_checked, Passed};
+ghost use Rattle.reader.specs.Answers.{record_found, stamp_found};
 
-use basics::{card, is_within};
+use crate::answers::Part;
+use basics::card::Refusal;
 use modbus::crc::ends_in_crc;
-use points::Judged;
 use points::groups::judge;
-use records::stamp::{in_range, stamp_from};
-
-// A step of the reading end: done, with the record's size, or the card's number and what it carries.
-#[derive(Clone, Copy)]
-pub enum Checked {
-    Good(usize),
-    Refused { number: u32, carried: u32 },
-}
+use records::stamp::Stamp;
 
 // Whether a frame is a 03 reply with the right CRC, unit 1-247 and a record of this size.
+#[tactic(auto, unfolding(crate::specs::Frame::is_reply))]
 fn is_reply(frame: &[u8], size: usize) -> bool
     requires { size ≤ 250 }
-    ensures { result ≡ is_reply frame.now size }
+    ensures checked { result ≡ is_reply frame.now size }
+    ensures long { result ≡ true → length frame.now ≡ size + 5 }
 {
-    if frame.len() != size + 5 {
-        return false;
-    }
-    if !is_within(1, 247, frame[0] as u32) {
-        return false;
-    }
-    if frame[1] != 3 {
-        return false;
-    }
-    if (frame[2] as usize) != size {
-        return false;
-    }
-    ends_in_crc(frame)
+    frame.len() == size + 5
+        && (1..=247).contains(&frame[0])
+        && frame[1] == 3
+        && usize::from(frame[2]) == size
+        && ends_in_crc(frame)
 }
 
 // Whether every byte is 0.
 fn all_zero(bytes: &[u8]) -> bool
     ensures { result ≡ all_zero bytes.now }
 {
-    let mut i: usize = 0;
-    while i < bytes.len() {
-        if bytes[i] != 0 {
-            return false;
-        }
-        i += 1;
-    }
-    true
+    bytes.iter().all(|byte| *byte == 0)
 }
 
 // The byte of a reply at which its record starts.
@@ -56,59 +37,69 @@ pub const RECORD_AT: usize = 3;
 // The record: the part of the frame that starts at byte 3.
 pub fn record_of(frame: &[u8], size: usize) -> &[u8]
     requires { (3 + size ≤ length frame.now) × (size ≤ 250) }
-    ensures { result.now ≡ record_part frame.now size }
+    ensures part { result.now ≡ record_part frame.now size }
+    ensures sized { length result.now ≡ size }
 {
     let end = RECORD_AT + size;
     &frame[RECORD_AT..end]
 }
 
 // Checks a record: Empty, or Garbled for its stamp.
-fn check_record(bytes: &[u8], day_first: bool) -> Checked
+#[tactic(auto, unfolding(crate::specs::Frame::record_checked))]
+fn check_record(bytes: &[u8], day_first: bool) -> Result<usize, Refusal>
     requires { 6 ≤ length bytes.now }
-    ensures { result ≡ record_checked day_first bytes.now }
+    ensures checked { result ≡ record_checked day_first bytes.now }
+    ensures sized { IfOk result (λ size. size ≡ length bytes.now) }
 {
     if all_zero(bytes) {
-        return Checked::Refused {
-            number: card::EMPTY,
-            carried: 0,
-        };
+        return Err(Refusal::Empty);
     }
-    if in_range(stamp_from(bytes, day_first)) {
-        return Checked::Good(bytes.len());
+    if !Stamp::from_bytes(bytes, day_first).is_in_range() {
+        return Err(Refusal::Garbled);
     }
-    Checked::Refused {
-        number: card::GARBLED,
-        carried: 0,
-    }
+    Ok(bytes.len())
 }
 
 // Checks a frame for a record of this size, and the record.
-fn check_reply(frame: &[u8], day_first: bool, size: usize) -> Checked
+#[tactic(auto, unfolding(crate::specs::Frame::reply_checked))]
+fn check_reply(frame: &[u8], day_first: bool, size: usize) -> Result<usize, Refusal>
     requires { (6 ≤ size) × (size ≤ 250) }
-    ensures { result ≡ reply_checked day_first frame.now size }
+    ensures checked { result ≡ reply_checked day_first frame.now size }
+    ensures sized { IfOk result (λ n. (n ≡ size) × (length frame.now ≡ size + 5)) }
 {
-    if is_reply(frame, size) {
-        return check_record(record_of(frame, size), day_first);
+    if !is_reply(frame, size) {
+        return Err(Refusal::Garbled);
     }
-    Checked::Refused {
-        number: card::GARBLED,
-        carried: 0,
-    }
+    check_record(record_of(frame, size), day_first)
 }
 
-// Checks groups and frame: the lowest number that applies, or done with the record's size.
-pub fn check(groups: &[u16], day_first: bool, frame: &[u8]) -> Checked
-    ensures { result ≡ frame_checked groups.now day_first frame.now }
+// Checks groups and frame: the size of the record, or the first row of the card that applies.
+#[tactic(auto, unfolding(crate::specs::Frame::frame_checked))]
+pub fn check(groups: &[u16], day_first: bool, frame: &[u8]) -> Result<usize, Refusal>
+    ensures checked { result ≡ frame_checked groups.now day_first frame.now }
+    ensures passed { IfOk result (Passed groups.now frame.now) }
 {
-    match judge(groups) {
-        Judged::BadGroup(g) => Checked::Refused {
-            number: card::GROUP,
-            carried: g as u32,
-        },
-        Judged::Long => Checked::Refused {
-            number: card::LONG,
-            carried: 0,
-        },
-        Judged::Good(size) => check_reply(frame, day_first, size),
-    }
+    let size = judge(groups)?;
+    check_reply(frame, day_first, size)
+}
+
+// The record: its place and length in the frame.
+#[tactic(auto, unfolding(crate::specs::Answers::record_found))]
+pub fn find_record(groups: &[u16], day_first: bool, frame: &[u8]) -> Result<Part, Refusal>
+    ensures { result ≡ record_found groups.now day_first frame.now }
+{
+    let size = check(groups, day_first, frame)?;
+    Ok(Part {
+        place: RECORD_AT as u32,
+        length: size as u32,
+    })
+}
+
+// The record's stamp: month, day, year, hour, minute, second, whatever the date order.
+#[tactic(auto, unfolding(crate::specs::Answers::stamp_found))]
+pub fn read_stamp(groups: &[u16], day_first: bool, frame: &[u8]) -> Result<Stamp, Refusal>
+    ensures { result ≡ stamp_found groups.now day_first frame.now }
+{
+    let size = check(groups, day_first, frame)?;
+    Ok(Stamp::from_bytes(record_of(frame, size), day_first))
 }

@@ -1,9 +1,12 @@
-// The reading end: decodes a reply frame for site software. `exports` has the calls that C links by `reader_c`; the other modules do the
-// work.
+// The reading end: decodes a reply frame for site software. `reader_c` exports its calls for C, which `answers` tells of
+// their results.
 #![tactic(auto)]
 
 pub mod answers;
-pub mod exports;
 pub mod frame;
 pub mod stretch;
 pub mod value;
+
+pub use frame::{find_record, read_stamp};
+pub use stretch::find_stretch;
+pub use value::read_point;

@@ -1,74 +1,63 @@
-// The stretch of a place, document 01, "Reading end" and row 16 of the service card. Places count from 1, unused ones too.
-ghost use Rattle.std.specs.Prelude.{◌≡◌, ◌≤◌, length};
-ghost use Rattle.reader.specs.Frame.{group_named, place_checked, stretch_checked, stretch_from, stretch_length, stretch_part};
-ghost use Rattle.reader.specs.Lent.{LentRecord};
+// The stretch of a place. Places count from 1, unused ones too.
+ghost use Rattle.std.specs.Prelude.{◌≡◌, IfOk};
+ghost use Rattle.reader.specs.Stretch.{FoundStretch, IsLent};
+ghost use Rattle.reader.specs.Answers.{stretch_found};
 
-use crate::frame::{Checked, check};
-use basics::card;
-use points::Group;
-use points::groups::{group_at, group_size, groups_size};
+use crate::answers::Part;
+use crate::frame::{RECORD_AT, check, record_of};
+use basics::card::Refusal;
+use points::groups::{NUMBERS, STAMP_BYTES, group_at, groups_size};
+use points::{Group, Row};
 
-// The group that g names; a g that is no place names nothing, as an unused place does.
-fn group_named(groups: &[u16], g: u32) -> Group
-    requires { length groups.now ≡ 32 }
-    ensures { result ≡ group_named groups.now g }
-{
-    if g < 1 {
-        return Group::Unused;
-    }
-    if 16 < g {
-        return Group::Unused;
-    }
-    group_at(groups, (g - 1) as usize)
+// A place that has points: their row and number, and their bytes with the byte of the frame at which these start.
+#[derive(Clone, Copy, Debug)]
+pub struct Stretch<'a> {
+    pub row: Row,
+    pub count: u16,
+    pub from: usize,
+    pub bytes: &'a [u8],
 }
 
-// Checks that a place has points: Beyond, or done with the record's size.
-fn check_place(group: Group, size: usize) -> Checked
-    ensures { result ≡ place_checked group size }
+// Checks groups, frame and place: the stretch of place g, or the first row of the card that applies.
+#[tactic(auto, using(crate::proofs::Laws::place_inside), unfolding(crate::specs::Frame::stretch_checked))]
+pub fn stretch_of<'a>(
+    groups: &[u16],
+    day_first: bool,
+    frame: &'a [u8],
+    g: u32,
+) -> Result<Stretch<'a>, Refusal>
+    ensures found { FoundStretch groups.now day_first frame.now g result }
+    ensures lent { IfOk result IsLent }
 {
-    let beyond = Checked::Refused {
-        number: card::BEYOND,
-        carried: 0,
+    let size = check(groups, day_first, frame)?;
+    if !(1..=16).contains(&g) {
+        return Err(Refusal::Beyond);
+    }
+    let groups: &[u16; NUMBERS] = groups.try_into().unwrap();
+    let place = (g - 1) as usize;
+    let Group::Points(row) = group_at(groups, place) else {
+        return Err(Refusal::Beyond);
     };
-    match group {
-        Group::Unused => beyond,
-        Group::Bad => beyond,
-        Group::Points(_) => Checked::Good(size),
-    }
+    let count = groups[2 * place + 1];
+    let length = row.bytes(count);
+    let start = STAMP_BYTES + groups_size(groups, place);
+    let record = record_of(frame, size);
+    Ok(Stretch {
+        row,
+        count,
+        from: RECORD_AT + start,
+        bytes: &record[start..start + length],
+    })
 }
 
-// Checks groups, frame and place: the lowest number that applies, or done with the record's size.
-pub fn check_stretch(groups: &[u16], day_first: bool, frame: &[u8], g: u32) -> Checked
-    ensures { result ≡ stretch_checked groups.now day_first frame.now g }
+// The stretch of place g, counted from 1: its place and length in the frame.
+#[tactic(auto, unfolding(crate::specs::Answers::stretch_found))]
+pub fn find_stretch(groups: &[u16], day_first: bool, frame: &[u8], g: u32) -> Result<Part, Refusal>
+    ensures { result ≡ stretch_found groups.now day_first frame.now g }
 {
-    match check(groups, day_first, frame) {
-        Checked::Refused { number, carried } => Checked::Refused { number, carried },
-        Checked::Good(size) => check_place(group_named(groups, g), size),
-    }
-}
-
-// Where the stretch of place g starts in a record.
-pub fn stretch_from(groups: &[u16], g: u32) -> usize
-    requires { (length groups.now ≡ 32) × (1 ≤ g) × (g ≤ 16) }
-    ensures { result ≡ stretch_from groups.now g }
-{
-    6 + groups_size(groups, (g - 1) as usize)
-}
-
-// The length of the stretch of place g.
-fn stretch_length(groups: &[u16], g: u32) -> usize
-    requires { (length groups.now ≡ 32) × (1 ≤ g) × (g ≤ 16) }
-    ensures { result ≡ stretch_length groups.now g }
-{
-    let i = (g - 1) as usize;
-    group_size(group_at(groups, i), groups[2 * i + 1])
-}
-
-// The stretch of place g, which starts at byte `from` of the record's bytes: a part of them, and so of the caller's frame.
-pub fn stretch_of<'a, 'b>(groups: &'a [u16], bytes: &'b [u8], g: u32, from: usize) -> &'b [u8]
-    requires { LentRecord groups.now bytes.now g from }
-    ensures { result.now ≡ stretch_part groups.now bytes.now g }
-{
-    let end = from + stretch_length(groups, g);
-    &bytes[from..end]
+    let stretch = stretch_of(groups, day_first, frame, g)?;
+    Ok(Part {
+        place: stretch.from as u32,
+        length: stretch.bytes.len() as u32,
+    })
 }

@@ -1,0 +1,30 @@
+-- A stretch as the code hands it on, and what its points' values ask of it.
+use Rattle.std.specs.Prelude.{List, Result, Ok, Err, ◌≡◌, Bool, ℕ, ◌+◌, ◌-◌, ◌≤◌, length}
+use Rattle.basics.specs.declared.card.Refusal.{Refusal}
+use Rattle.points.specs.declared.groups.Group.TheVariants.{Points}
+use Rattle.points.specs.Table.{points_size}
+use Rattle.points.specs.Groups.{group_of, group_at, count_at}
+use Rattle.reader.specs.declared.stretch.Stretch.{Stretch}
+use Rattle.reader.specs.Frame.{record_at, record_part, stretch_checked, stretch_from, stretch_part}
+
+-- the stretch of place g of a frame that passes, whose record has `size` bytes
+pub record IsStretch (gs : List ℕ) (d : Bool) (f : List ℕ) (g : ℕ) (s : Stretch) : Type 0 where
+  pub size : ℕ
+  pub checked : stretch_checked gs d f g ≡ Ok size
+  pub place : (1 ≤ g) × (g ≤ 16)
+  pub group : group_at gs (g - 1) ≡ Points s.row
+  pub count : s.count ≡ count_at gs (g - 1)
+  pub from : s.from ≡ record_at + stretch_from gs g
+  pub bytes : s.bytes.now ≡ stretch_part gs (record_part f size) g
+
+-- what is answered where the stretch of place g is asked for
+abbrev pub FoundStretch : List ℕ → Bool → List ℕ → ℕ → Result Stretch Refusal → Type 0
+FoundStretch gs d f g (Ok s) = IsStretch gs d f g s
+FoundStretch gs d f g (Err refusal) = stretch_checked gs d f g ≡ Err refusal
+
+-- a stretch of a group, in a frame of at most 255 bytes
+pub record IsLent (s : Stretch) : Type 0 where
+  pub point : ℕ
+  pub grouped : group_of point s.count ≡ Points s.row
+  pub sized : length s.bytes.now ≡ points_size s.row s.count
+  pub near : s.from + length s.bytes.now ≤ 255
