@@ -5,108 +5,88 @@
 --     poll-refuses, poll-done    what a refused poll leaves, and one that is done
 --     poll-short        its reply's length fits
 --     poll-valid        it leaves a valid state valid
-use mathlib.Core.Path.{◌≡◌, refl, ap, ◌∙◌, subst}
+use mathlib.Core.Path.{◌≡◌, refl, ap, ◌∙◌}
 use mathlib.Core.List.{List}
-use mathlib.Core.Bool.{Bool, true, false, cond, not}
-use Prim.Native.Nat.{ℕ, ◌≤◌}
+use mathlib.Core.Bool.{true, false}
+use Prim.Native.Nat.{ℕ, ◌<◌, ◌≤◌}
 use native.Mathlib.Omega.{arith}
-use borrow.Author.Tests.{eqb-true, eqb-false, ne_eqb, ltb-false}
-use lib.Dec.{eqb, ltb}
+use borrow.Author.Tests.{eq-eqb, ne_eqb, leb-true, lt-ltb, le-ltb}
+use lib.Dec.{eqb}
 use lib.ListN.{length}
-use Rattle.basics.specs.Card.{table_no, reply_no, first_of}
+use Rattle.basics.specs.declared.card.Refusal.{Refusal}
+use Rattle.basics.specs.declared.card.Refusal.TheVariants.{Table, Reply}
+use Rattle.basics.specs.Card.{Card, card, card_of, table_no, reply_no}
 use Rattle.basics.proofs.Tests.{by_cond}
 use Rattle.points.specs.Table.{table_bytes}
-use Rattle.archive.specs.Layout.{layout_of, defined_files, all_files}
-use Rattle.archive.specs.Lent.{SizesOf}
+use Rattle.archive.specs.declared.layout.File.{File}
+use Rattle.archive.specs.Layout.{good_files, has_room, layout_size}
+use Rattle.polls.proofs.Agree.{laid_lends}
 use Rattle.polls.specs.View.{archive_view}
-use Rattle.polls.specs.Frames.{reply_to, Answers}
+use Rattle.polls.specs.Frames.{Answers}
 use Rattle.polls.specs.Lent.{least_buffer, LentPoll}
 use Rattle.polls.proofs.Laws.{requested-within}
 use Rattle.polls.proofs.Lengths.{reply-short}
 use Rattle.state.specs.declared.parts.State.{State}
-use Rattle.state.specs.State.{depth_of, laid_out, with_requested}
+use Rattle.state.specs.Lent.{IsTaken}
+use Rattle.state.specs.State.{laid_out, with_requested}
 use Rattle.state.specs.Validity.{state_number, valid}
-use Rattle.state.proofs.Clauses.{valid-split, valid-join, within-split, within-join, state-taken}
+use Rattle.state.proofs.Clauses.{valid-split, valid-join, within-split, within-join}
+use Rattle.gateway.proofs.Answers.{some_number}
 use Rattle.gateway.specs.declared.poll.PollAnswer.{PollAnswer}
-use Rattle.gateway.specs.Poll.{poll_view, lent_number, poll_number, poll_told, poll_answer, poll_buffer, Polled}
-
-pub poll-number-is : (s : State) (size table_size buffer_size n : ℕ) → n ≡ state_number s size →
-    first_of n (lent_number table_size buffer_size) ≡ poll_number s size table_size buffer_size
-unfolding poll_number
-poll-number-is s size table_size buffer_size n is = ap (λ k. first_of k (lent_number table_size buffer_size)) is
-
-pub record Taken (s : State) (size table_size buffer_size : ℕ) : Type 0 where
-  pub state : state_number s size ≡ 0
-  pub whole : table_size ≡ table_bytes
-  pub buffered : least_buffer ≤ buffer_size
-
-pub poll-taken : (s : State) (size table_size buffer_size : ℕ) → poll_number s size table_size buffer_size ≡ 0 → Taken s size table_size buffer_size
-unfolding poll_number
-poll-taken s size table_size buffer_size taken =
-    go (eqb (state_number s size) 0) (eqb table_size table_bytes) (ltb buffer_size least_buffer) refl refl refl taken
-  where
-    go : (a t b : Bool) → eqb (state_number s size) 0 ≡ a → eqb table_size table_bytes ≡ t → ltb buffer_size least_buffer ≡ b →
-        cond a (cond (not t) table_no (cond b reply_no 0)) (state_number s size) ≡ 0 → Taken s size table_size buffer_size
-    go false t b state whole short q = absurd (eqb-false (state_number s size) 0 state q)
-    go true false b state whole short q = absurd (omega (arith, q))
-    go true true true state whole short q = absurd (omega (arith, q))
-    go true true false state whole short q =
-        record { state = eqb-true _ _ state; whole = eqb-true _ _ whole; buffered = ltb-false _ _ short }
+use Rattle.gateway.specs.Poll.{poll_view, poll_number, poll_told, poll_answer, poll_buffer, Polled}
 
 module _ (s : State) (m table frame buffer : List ℕ) where
   abbrev number : ℕ
   number = poll_number s (length m) (length table) (length buffer)
 
-  pub poll-refuses : (n : ℕ) → n ≡ poll_number s (length m) (length table) (length buffer) → (n ≡ 0 → ⊥) →
-      Polled s m table frame buffer (poll_told s n 0) m table buffer
+  refused : (e : Refusal) → (card_of e).number ≡ number → Polled s m table frame buffer (poll_told s (card_of e).number 0) m table buffer
   unfolding poll_answer poll_buffer
-  poll-refuses n is some =
-      let refused : eqb number 0 ≡ false = ne_eqb number 0 (λ none. some (is ∙ none)) in
-      record { answer = rw (is, refused) refl; memory = refl; kept = refl; reply = rw refused refl }
+  refused e is =
+      let some : eqb number 0 ≡ false = ne_eqb number 0 (λ none. some_number e (is ∙ none)) in
+      record { answer = rw (is, some) refl; memory = refl; kept = refl; reply = rw some refl }
 
-  abbrev groups : List ℕ
-  groups = s.files.layout.groups
+  -- refused for its state, for its table, or for its reply buffer
+  pub poll_refused : (e : Refusal) → card_of e ≡ card (state_number s (length m)) 0 →
+      Polled s m table frame buffer (poll_told s (card_of e).number 0) m table buffer
+  unfolding poll_number
+  poll_refused e is =
+      let of_state : (card_of e).number ≡ state_number s (length m) = ap (λ (k : Card). k.number) is in
+      refused e (rw (ne_eqb (state_number s (length m)) 0 (λ none. some_number e (of_state ∙ none))) of_state)
 
-  abbrev limits : List ℕ
-  limits = s.files.layout.limits
+  pub table_refused : state_number s (length m) ≡ 0 → (length table ≡ table_bytes → ⊥) → Polled s m table frame buffer (poll_told s table_no 0) m table buffer
+  unfolding poll_number
+  table_refused taken other = refused Table (simp (taken, ne_eqb _ _ other))
 
-  pub poll-lends : (sizes : List ℕ) (depth : ℕ) → depth ≡ depth_of s.site → poll_number s (length m) (length table) (length buffer) ≡ 0 → SizesOf s.files.layout.groups sizes →
-      length groups ≡ 320 → length limits ≡ defined_files → length sizes ≡ defined_files →
-      length s.files.pointers ≡ all_files → length s.line.requested ≡ all_files →
-      LentPoll groups limits sizes depth s.files.pointers s.line.requested m table buffer
-  poll-lends sizes depth deep taken sized defines limited measured pointed numbered =
-      let all = poll-taken s (length m) (length table) (length buffer) taken in
-      let state = state-taken s (length m) all.state in
-      let holds = valid-split s state.1 in
-      record {
-        layout = record { defines = defines; limited = limited; measured = measured; good = holds.laid; sized = sized };
-        room = rw (state.0, deep) holds.room;
-        pointed = pointed;
-        numbered = numbered;
-        whole = all.whole;
-        buffered = all.buffered;
-      }
+  pub buffer_refused : state_number s (length m) ≡ 0 → length table ≡ table_bytes → length buffer < least_buffer →
+      Polled s m table frame buffer (poll_told s reply_no 0) m table buffer
+  unfolding poll_number
+  buffer_refused taken whole short = refused Reply (simp (taken, eq-eqb _ _ whole, lt-ltb _ _ short))
 
-  pub poll-sees : (depth told : ℕ) (buffer' requested' : List ℕ) → depth ≡ depth_of s.site →
-      Answers (archive_view s.site.unit (layout_of s.files.layout depth) s.files.pointers s.line.requested m table)
-      frame buffer told buffer' requested' → Answers (poll_view s m table) frame buffer told buffer' requested'
-  unfolding poll_view
-  poll-sees depth told buffer' requested' deep =
-      subst (λ d. Answers (archive_view s.site.unit (layout_of s.files.layout d) s.files.pointers s.line.requested m table)
-      frame buffer told buffer' requested') deep
+  -- where a state is taken, what the answering function is lent, and what it leaves
+  module _ (files : List File) (taken : IsTaken s (length m) files) where
+    good : good_files s.files.layout.groups ≡ true
+    good = (valid-split s taken.sound).laid
 
-  pub poll-done : (told : ℕ) (buffer' requested' : List ℕ) → poll_number s (length m) (length table) (length buffer) ≡ 0 →
-      Answers (poll_view s m table) frame buffer told buffer' requested' →
-      Polled s m table frame buffer (poll_told (with_requested s requested') 0 told) m table buffer'
-  unfolding poll_answer poll_buffer
-  poll-done told buffer' requested' taken answers =
-      record { answer = rw (taken, answers.asks, answers.sent.size) refl; memory = refl; kept = refl; reply = rw taken answers.sent.left }
+    pub poll_lends : least_buffer ≤ length buffer → LentPoll files m buffer
+    unfolding has_room
+    poll_lends buffered =
+        let room = leb-true (layout_size (laid_out s)) s.site.archive_length (valid-split s taken.sound).room in
+        laid_lends (laid_out s) files m buffer good taken.laid (omega (arith, room, taken.same)) buffered
 
-  pub poll-short : poll_number s (length m) (length table) (length buffer) ≡ 0 → length (reply_to (poll_view s m table) frame) ≤ least_buffer
-  unfolding poll_view
-  poll-short taken =
-      let state = state-taken s (length m) (poll-taken s (length m) (length table) (length buffer) taken).state in
-      reply-short s.site.unit (laid_out s) s.files.pointers s.line.requested m table (valid-split s state.1).laid frame
+    pub poll_done : (told : ℕ) (buffer' requested' : List ℕ) → state_number s (length m) ≡ 0 → length table ≡ table_bytes → least_buffer ≤ length buffer →
+        Answers (archive_view s.site.unit (laid_out s) s.files.pointers s.line.requested m table) frame buffer told buffer' requested' →
+        Polled s m table frame buffer (poll_told (with_requested s requested') 0 told) m table buffer'
+    unfolding poll_answer poll_buffer poll_number poll_view
+    poll_done told buffer' requested' number_taken whole buffered answers =
+        let none : number ≡ 0 = simp (number_taken, eq-eqb _ _ whole, le-ltb _ _ buffered) in
+        record { answer = rw (none, answers.asks, answers.sent.size) refl; memory = refl; kept = refl; reply = rw none answers.sent.left }
+
+    -- its reply's length fits
+    pub poll_short : (told : ℕ) (buffer' requested' : List ℕ) →
+        Answers (archive_view s.site.unit (laid_out s) s.files.pointers s.line.requested m table) frame buffer told buffer' requested' → told ≤ least_buffer
+    poll_short told buffer' requested' answers =
+        let short = reply-short s.site.unit (laid_out s) s.files.pointers s.line.requested m table good frame in
+        omega (arith, short, answers.sent.size)
 
   pub poll-valid : valid s ≡ true → valid (poll_answer s m table frame (length buffer)).state ≡ true
   unfolding poll_answer poll_view

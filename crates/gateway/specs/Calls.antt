@@ -1,12 +1,14 @@
 -- Document 01, "The plain machine" and "Numbers on the service card": the settings calls. m is the archive memory that a call is
 -- lent; files and slots are counted from 1, as callers name them.
-use Rattle.std.specs.Prelude.{List, ◌≡◌, Bool, true, false, cond, not, ◌&&◌, ℕ, ◌-◌, eqb, length, set, replicate}
-use Rattle.basics.specs.Card.{done_no, memory_no, foreign_no, file_no, locked_no, trigger_no, running_no, room_no, alarm_no}
+use Rattle.std.specs.Prelude.{List, ◌≡◌, Bool, true, false, cond, not, ◌&&◌, ℕ, ◌-◌, eqb, length, set, replicate, Result, Ok, Err}
+use Rattle.basics.specs.declared.card.Refusal.{Refusal}
+use Rattle.basics.specs.Card.{card_of, card_told, done_no, memory_no, foreign_no, file_no, locked_no, trigger_no, running_no, room_no, alarm_no}
 use Rattle.basics.specs.Numbers.{within}
 use Rattle.modbus.specs.Frame.{good_unit}
 use Rattle.points.specs.Table.{boolean_or_none}
 use Rattle.points.specs.Groups.{judged_card}
 use Rattle.archive.specs.Layout.{defined_files, has_room, redefined}
+use Rattle.archive.specs.declared.alarms.Slot.{Slot}
 use Rattle.archive.specs.Alarms.{slot_count, good_slot}
 use Rattle.state.specs.declared.parts.State.{State}
 use Rattle.state.specs.Firmware.{good_firmware, least_memory}
@@ -14,7 +16,7 @@ use Rattle.state.specs.State.{drafted, fresh_state, zero_state, with_flags, with
 use Rattle.state.specs.Validity.{state_number}
 use Rattle.gateway.specs.declared.calls.Answer.{Answer}
 
--- ---- what every call answers
+-- ---- what C is told of every call
 -- a number of the card, what it carries, and a state
 abbrev pub told : State → ℕ → ℕ → Answer
 told s number carried = record { number = number; carried = carried; state = s }
@@ -22,6 +24,10 @@ told s number carried = record { number = number; carried = carried; state = s }
 -- done, with the new state
 abbrev pub done : State → Answer
 done s = told s done_no 0
+
+-- what is told of a call's result, with the state that the call leaves
+abbrev pub answer_of : Result (Unit {0}) Refusal → State → Answer
+answer_of r s = told s (card_told r).number (card_told r).carried
 
 -- the lowest number that applies is by_number, with the state as it was: the state's number before what the call itself answers
 abbrev pub settled : State → ℕ → Answer → Answer
@@ -66,12 +72,16 @@ trigger_answer s size f p = settled s size
 abbrev pub TriggerSet : State → List ℕ → ℕ → ℕ → Answer → List ℕ → Type 0
 TriggerSet s m f p r m' = Reads (trigger_answer s (length m) f p) m r m'
 
+-- an alarm slot of its three fields
+abbrev pub slot_from : ℕ → ℕ → ℕ → Slot
+slot_from point kind transducer = record { point = point; transducer = transducer; kind = kind }
+
 -- ---- Alarm: Alarm (12) for a slot not 1-32 or a bad entry
 unfoldable pub alarm_answer : State → ℕ → ℕ → ℕ → ℕ → ℕ → Answer
 alarm_answer s size k point kind transducer = settled s size
     (cond (not (within 1 slot_count k)) (told s alarm_no 0)
     (cond (not (good_slot point kind transducer)) (told s alarm_no 0)
-    (done (with_slots s (set s.settings.slots (k - 1) (record { point = point; transducer = transducer; kind = kind }))))))
+    (done (with_slots s (set s.settings.slots (k - 1) (slot_from point kind transducer))))))
 
 abbrev pub AlarmSet : State → List ℕ → ℕ → ℕ → ℕ → ℕ → Answer → List ℕ → Type 0
 AlarmSet s m k point kind transducer r m' = Reads (alarm_answer s (length m) k point kind transducer) m r m'
@@ -127,6 +137,11 @@ unfoldable pub fresh_answer : Bool → ℕ → ℕ → ℕ → Answer
 fresh_answer day_first unit firmware size =
     let number = fresh_number unit firmware size in
     cond (eqb number 0) (done (fresh_state day_first unit firmware size)) (told zero_state number 0)
+
+-- what is told of Fresh's result: the state that was made, or a state of zeros
+abbrev pub fresh_told : Result State Refusal → Answer
+fresh_told (Ok made) = done made
+fresh_told (Err refusal) = told zero_state (card_of refusal).number (card_of refusal).carried
 
 unfoldable pub fresh_memory : ℕ → ℕ → List ℕ → List ℕ
 fresh_memory unit firmware m = cond (eqb (fresh_number unit firmware (length m)) 0) (replicate (length m) 0) m

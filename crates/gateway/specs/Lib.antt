@@ -1,4 +1,3 @@
 pub mod Calls
 pub mod Scan
 pub mod Poll
-pub mod Lent

@@ -1,7 +1,8 @@
 -- Document 01, "Frames", with document 02, L3 and L5, as a call: lent archive memory m, a live table, a frame and a reply buffer.
 -- Memory (1), Foreign (2), Table (3), Reply (13).
-use Rattle.std.specs.Prelude.{List, ◌≡◌, cond, not, ℕ, eqb, ltb, length}
-use Rattle.basics.specs.Card.{done_no, table_no, reply_no, first_of}
+use Rattle.std.specs.Prelude.{List, ◌≡◌, cond, not, ℕ, eqb, ltb, length, Result, Ok, Err}
+use Rattle.basics.specs.declared.card.Refusal.{Refusal}
+use Rattle.basics.specs.Card.{card_of, done_no, table_no, reply_no, first_of}
 use Rattle.basics.specs.Lists.{pasted}
 use Rattle.points.specs.Table.{table_bytes}
 use Rattle.polls.specs.View.{View, archive_view}
@@ -27,6 +28,11 @@ poll_number s size table_size buffer_size = first_of (state_number s size) (lent
 
 abbrev pub poll_told : State → ℕ → ℕ → PollAnswer
 poll_told s number size = record { number = number; length = size; state = s }
+
+-- what is told of a poll's result, the reply's length, with the state that it leaves
+abbrev pub poll_answer_of : Result ℕ Refusal → State → PollAnswer
+poll_answer_of (Ok size) s = poll_told s done_no size
+poll_answer_of (Err refusal) s = poll_told s (card_of refusal).number 0
 
 -- the number, the reply's length, 0 for none, and the state: only requested numbers change
 unfoldable pub poll_answer : State → List ℕ → List ℕ → List ℕ → ℕ → PollAnswer

@@ -1,16 +1,16 @@
-// The settings calls, document 01, "The plain machine". Each takes the state and the archive and answers the service card's number,
-// 0 for done, the number that goes with it, and the state: the new one, or the one given where the call is refused.
-ghost use Rattle.std.specs.Prelude.{◌≡◌, cond, set, ◌<◌, ◌≤◌, ◌-◌};
-ghost use Rattle.basics.specs.Card.{done_no, running_no, first_of};
-ghost use Rattle.state.specs.State.{with_flags, with_settings, with_triggers, with_slots};
-ghost use Rattle.gateway.specs.Calls.{told, by_number, Locked, Stopped, Unlocked, TriggerSet, AlarmSet};
+// The settings calls on a state where it stands. Each is refused by the first row of the card that applies, and then changes nothing.
+// They are functions and no methods: an inherent impl belongs into the crate of its type, and a trait for one type says no more.
+ghost use Rattle.std.specs.Prelude.{◌≡◌, true, false, ◌-◌, MatchResult};
+ghost use Rattle.basics.specs.Card.{card_told};
+ghost use Rattle.basics.specs.Numbers.{within};
+ghost use Rattle.archive.specs.Alarms.{good_slot};
+ghost use Rattle.archive.specs.Layout.{defined_files};
+ghost use Rattle.gateway.specs.Calls.{answer_of, slot_from, Locked, Stopped, Unlocked, TriggerSet, AlarmSet};
 
 use archive::alarms::Slot;
-use basics::card::{ALARM, DONE, FILE, RUNNING, TRIGGER};
-use basics::is_within;
+use basics::card::{DONE, Refusal};
 use points::table::is_boolean_or_none;
-use state::check::check;
-use state::parts::{Settings, State};
+use state::parts::State;
 use state::validity::is_slot_good;
 
 #[repr(C)]
@@ -21,159 +21,125 @@ pub struct Answer {
     pub state: State,
 }
 
-pub fn tell(s: State, number: u32, carried: u32) -> Answer
-    ensures { result ≡ told s number carried }
-{
-    Answer {
-        number,
-        carried,
-        state: s,
-    }
+// What C is told of a call beside the state: the card's number, 0 for done, and the number that goes with it.
+#[derive(Clone, Copy, Debug, PartialEq, Eq)]
+pub struct Told {
+    pub number: u32,
+    pub carried: u32,
 }
 
-pub fn with_flags(s: State, running: bool, unlocked: bool, pending: bool) -> State
-    ensures { result ≡ with_flags s running unlocked pending }
+// The state is not told here: only one copy of it is made where the answer is built of it.
+pub fn told_of(outcome: Result<(), Refusal>) -> Told
+    ensures number { result.number ≡ (card_told outcome).number }
+    ensures carried { result.carried ≡ (card_told outcome).carried }
 {
-    let mut t = s;
-    t.flags.running = running;
-    t.flags.unlocked = unlocked;
-    t.flags.pending = pending;
-    t
-}
-
-// What a call answers that sets flags, by its number.
-fn answer_flags(number: u32, s: State, running: bool, unlocked: bool, pending: bool) -> Answer
-    ensures { result ≡ by_number number (with_flags s running unlocked pending) s }
-{
-    if number != DONE {
-        return tell(s, number, 0);
+    match outcome {
+        Ok(()) => Told {
+            number: DONE,
+            carried: 0,
+        },
+        Err(refusal) => Told {
+            number: u32::from(refusal),
+            carried: refusal.carried(),
+        },
     }
-    tell(with_flags(s, running, unlocked, pending), DONE, 0)
 }
 
 // Lock: unlocked off.
-pub fn windrow_gateway_lock(s: State, archive: &[u8]) -> Answer
-    ensures { Locked s archive.now result archive.now }
+#[tactic(auto, using(crate::proofs::Answers::refused_first, crate::proofs::Answers::own_next), unfolding(crate::specs::Calls::lock_answer))]
+pub fn lock(state: &mut State, archive: &[u8]) -> Result<(), Refusal>
+    ensures { Locked state.old archive.now (answer_of result state.new) archive.now }
 {
-    let checked = check(s, archive.len());
-    answer_flags(checked.number, s, s.flags.running, false, s.flags.pending)
+    state.check(archive.len())?;
+    state.flags.unlocked = false;
+    Ok(())
 }
 
 // Stop: running off.
-pub fn windrow_gateway_stop(s: State, archive: &[u8]) -> Answer
-    ensures { Stopped s archive.now result archive.now }
+#[tactic(auto, using(crate::proofs::Answers::refused_first, crate::proofs::Answers::own_next), unfolding(crate::specs::Calls::stop_answer))]
+pub fn stop(state: &mut State, archive: &[u8]) -> Result<(), Refusal>
+    ensures { Stopped state.old archive.now (answer_of result state.new) archive.now }
 {
-    let checked = check(s, archive.len());
-    answer_flags(checked.number, s, false, s.flags.unlocked, s.flags.pending)
-}
-
-// Unlock's number, behind the state's: Running (10).
-fn unlock_number(number: u32, running: bool) -> u32
-    ensures { result ≡ first_of number (cond running running_no done_no) }
-{
-    if number != DONE {
-        return number;
-    }
-    if running {
-        return RUNNING;
-    }
-    DONE
+    state.check(archive.len())?;
+    state.flags.running = false;
+    Ok(())
 }
 
 // Unlock: unlocked and pending on, while not running.
-pub fn windrow_gateway_unlock(s: State, archive: &[u8]) -> Answer
-    ensures { Unlocked s archive.now result archive.now }
+#[tactic(auto, using(crate::proofs::Answers::refused_first, crate::proofs::Answers::own_next), unfolding(crate::specs::Calls::unlock_answer))]
+pub fn unlock(state: &mut State, archive: &[u8]) -> Result<(), Refusal>
+    ensures { Unlocked state.old archive.now (answer_of result state.new) archive.now }
 {
-    let checked = check(s, archive.len());
-    let running = s.flags.running;
-    answer_flags(
-        unlock_number(checked.number, running),
-        s,
-        running,
-        true,
-        true,
-    )
-}
-
-// Other settings.
-pub fn with_settings(s: State, settings: Settings) -> State
-    ensures { result ≡ with_settings s settings }
-{
-    let site = s.site;
-    let flags = s.flags;
-    let seen = s.seen;
-    let files = s.files;
-    let line = s.line;
-    State {
-        site,
-        flags,
-        seen,
-        files,
-        line,
-        settings,
+    state.check(archive.len())?;
+    if state.flags.running {
+        return Err(Refusal::Running);
     }
+    state.flags.unlocked = true;
+    state.flags.pending = true;
+    Ok(())
 }
 
-fn with_trigger(s: State, file: u32, point: u16) -> State
-    requires { (1 ≤ file) × (file ≤ 10) }
-    ensures { result ≡ with_triggers s (set s.settings.triggers (file - 1) point) }
+// The place of one of files 1 to 10, counted from 0.
+pub fn place_of(file: u32) -> Result<usize, Refusal>
+    ensures { MatchResult result
+        (λ place. (within 1 defined_files file ≡ true) × (place ≡ file - 1))
+        (λ refusal. (within 1 defined_files file ≡ false) × (refusal ≡ Refusal.File)) }
 {
-    let mut settings = s.settings;
-    settings.triggers[(file - 1) as usize] = point;
-    with_settings(s, settings)
+    match file {
+        1..=10 => Ok(file as usize - 1),
+        _ => Err(Refusal::File),
+    }
 }
 
 // Trigger: the Boolean whose rise captures a record of a file, or 0 for none. It empties nothing.
-pub fn windrow_gateway_trigger(s: State, archive: &[u8], file: u32, point: u32) -> Answer
-    ensures { TriggerSet s archive.now file point result archive.now }
+#[tactic(auto, using(crate::proofs::Answers::refused_first, crate::proofs::Answers::own_next, crate::proofs::Answers::point_small), unfolding(crate::specs::Calls::trigger_answer))]
+pub fn trigger(state: &mut State, archive: &[u8], file: u32, point: u32) -> Result<(), Refusal>
+    ensures { TriggerSet state.old archive.now file point (answer_of result state.new) archive.now }
 {
-    let checked = check(s, archive.len());
-    if checked.number != DONE {
-        return tell(s, checked.number, 0);
-    }
-    if !is_within(1, 10, file) {
-        return tell(s, FILE, 0);
-    }
+    state.check(archive.len())?;
+    let place = place_of(file)?;
     if !is_boolean_or_none(point) {
-        return tell(s, TRIGGER, 0);
+        return Err(Refusal::Trigger);
     }
-    tell(with_trigger(s, file, point as u16), DONE, 0)
+    state.settings.triggers[place] = point as u16;
+    Ok(())
 }
 
-fn with_slot(s: State, number: u32, slot: Slot) -> State
-    requires { (1 ≤ number) × (number ≤ 32) }
-    ensures { result ≡ with_slots s (set s.settings.slots (number - 1) slot) }
+// The alarm slot of three fields, each of which is checked even when the slot is off.
+#[tactic(auto, using(crate::proofs::Answers::slot_small))]
+fn slot_of(point: u32, kind: u32, transducer: u32) -> Result<Slot, Refusal>
+    ensures { MatchResult result
+        (λ slot. (good_slot point kind transducer ≡ true) × (slot ≡ slot_from point kind transducer))
+        (λ refusal. (good_slot point kind transducer ≡ false) × (refusal ≡ Refusal.Alarm)) }
 {
-    let mut settings = s.settings;
-    settings.slots[(number - 1) as usize] = slot;
-    with_settings(s, settings)
+    if !is_slot_good(point, kind, transducer) {
+        return Err(Refusal::Alarm);
+    }
+    Ok(Slot {
+        point: point as u16,
+        transducer: transducer as u16,
+        kind: kind as u16,
+    })
 }
 
-// Alarm: a slot's Boolean point (0 is off), type and float point; each is checked even when the slot is off.
-pub fn windrow_gateway_alarm(
-    s: State,
+// Alarm: a slot's Boolean point (0 is off), type and float point.
+#[tactic(auto, using(crate::proofs::Answers::refused_first, crate::proofs::Answers::own_next), unfolding(crate::specs::Calls::alarm_answer))]
+pub fn alarm(
+    state: &mut State,
     archive: &[u8],
     slot: u32,
     point: u32,
     kind: u32,
     transducer: u32,
-) -> Answer
-    ensures { AlarmSet s archive.now slot point kind transducer result archive.now }
+) -> Result<(), Refusal>
+    ensures { AlarmSet state.old archive.now slot point kind transducer
+        (answer_of result state.new) archive.now }
 {
-    let checked = check(s, archive.len());
-    if checked.number != DONE {
-        return tell(s, checked.number, 0);
+    state.check(archive.len())?;
+    if !(1..=32).contains(&slot) {
+        return Err(Refusal::Alarm);
     }
-    if !is_within(1, 32, slot) {
-        return tell(s, ALARM, 0);
-    }
-    if !is_slot_good(point, kind, transducer) {
-        return tell(s, ALARM, 0);
-    }
-    let entry = Slot {
-        point: point as u16,
-        transducer: transducer as u16,
-        kind: kind as u16,
-    };
-    tell(with_slot(s, slot, entry), DONE, 0)
+    let place = slot as usize - 1;
+    state.settings.slots[place] = slot_of(point, kind, transducer)?;
+    Ok(())
 }

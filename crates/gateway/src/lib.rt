@@ -3,5 +3,6 @@
 
 pub mod calls;
 pub mod files;
+mod live;
 pub mod poll;
 pub mod scan;

@@ -1,11 +1,13 @@
-// The gateway as firmware links it: the ten calls of `gateway`, exported for C by the library's own clauses.
+// The gateway as firmware links it: the ten calls of `gateway`, exported for C by the library's own clauses. C hands a state in and gets
+// it back by value; the library changes it where it stands.
 #![tactic(auto)]
 
 ghost use Rattle.gateway.specs.Calls.{Locked, Stopped, Unlocked, TriggerSet, AlarmSet, MadeFresh, Defined, Started};
 ghost use Rattle.gateway.specs.Poll.{Polled};
 ghost use Rattle.gateway.specs.Scan.{Scanned};
 
-use gateway::calls::{self, Answer};
+use basics::card::DONE;
+use gateway::calls::{self, Answer, told_of};
 use gateway::poll::{self, PollAnswer};
 use gateway::{files, scan};
 use records::stamp::Stamp;
@@ -21,7 +23,18 @@ pub extern "C" fn windrow_gateway_fresh(
 ) -> Answer
     ensures { MadeFresh day_first unit firmware archive.old result archive.new }
 {
-    files::windrow_gateway_fresh(day_first, unit, firmware, archive)
+    match files::fresh(day_first, unit, firmware, archive) {
+        Ok(state) => Answer {
+            number: DONE,
+            carried: 0,
+            state,
+        },
+        Err(refusal) => Answer {
+            number: u32::from(refusal),
+            carried: refusal.carried(),
+            state: State::fresh(false, 0, 0, 0),
+        },
+    }
 }
 
 // Lock: unlocked off.
@@ -29,7 +42,13 @@ pub extern "C" fn windrow_gateway_fresh(
 pub extern "C" fn windrow_gateway_lock(s: State, archive: &[u8]) -> Answer
     ensures { Locked s archive.now result archive.now }
 {
-    calls::windrow_gateway_lock(s, archive)
+    let mut state = s;
+    let told = told_of(calls::lock(&mut state, archive));
+    Answer {
+        number: told.number,
+        carried: told.carried,
+        state,
+    }
 }
 
 // Stop: running off.
@@ -37,7 +56,13 @@ pub extern "C" fn windrow_gateway_lock(s: State, archive: &[u8]) -> Answer
 pub extern "C" fn windrow_gateway_stop(s: State, archive: &[u8]) -> Answer
     ensures { Stopped s archive.now result archive.now }
 {
-    calls::windrow_gateway_stop(s, archive)
+    let mut state = s;
+    let told = told_of(calls::stop(&mut state, archive));
+    Answer {
+        number: told.number,
+        carried: told.carried,
+        state,
+    }
 }
 
 // Unlock: unlocked and pending on, while not running.
@@ -45,7 +70,13 @@ pub extern "C" fn windrow_gateway_stop(s: State, archive: &[u8]) -> Answer
 pub extern "C" fn windrow_gateway_unlock(s: State, archive: &[u8]) -> Answer
     ensures { Unlocked s archive.now result archive.now }
 {
-    calls::windrow_gateway_unlock(s, archive)
+    let mut state = s;
+    let told = told_of(calls::unlock(&mut state, archive));
+    Answer {
+        number: told.number,
+        carried: told.carried,
+        state,
+    }
 }
 
 // Define: replaces one file's draft. A layout is not touched before Start.
@@ -59,7 +90,13 @@ pub extern "C" fn windrow_gateway_define(
 ) -> Answer
     ensures { Defined s archive.now file groups.now limit result archive.now }
 {
-    files::windrow_gateway_define(s, archive, file, groups, limit)
+    let mut state = s;
+    let told = told_of(files::define(&mut state, archive, file, groups, limit));
+    Answer {
+        number: told.number,
+        carried: told.carried,
+        state,
+    }
 }
 
 // Start: running on, unlocked off. Pending, it lays out the draft and empties every file.
@@ -67,7 +104,13 @@ pub extern "C" fn windrow_gateway_define(
 pub extern "C" fn windrow_gateway_start(s: State, archive: &mut [u8]) -> Answer
     ensures { Started s archive.old result archive.new }
 {
-    files::windrow_gateway_start(s, archive)
+    let mut state = s;
+    let told = told_of(files::start(&mut state, archive));
+    Answer {
+        number: told.number,
+        carried: told.carried,
+        state,
+    }
 }
 
 // Trigger: the Boolean whose rise captures a record of a file, or 0 for none. It empties nothing.
@@ -75,7 +118,13 @@ pub extern "C" fn windrow_gateway_start(s: State, archive: &mut [u8]) -> Answer
 pub extern "C" fn windrow_gateway_trigger(s: State, archive: &[u8], file: u32, point: u32) -> Answer
     ensures { TriggerSet s archive.now file point result archive.now }
 {
-    calls::windrow_gateway_trigger(s, archive, file, point)
+    let mut state = s;
+    let told = told_of(calls::trigger(&mut state, archive, file, point));
+    Answer {
+        number: told.number,
+        carried: told.carried,
+        state,
+    }
 }
 
 // Alarm: a slot's Boolean point (0 is off), type and float point; each is checked even when the slot is off.
@@ -90,7 +139,13 @@ pub extern "C" fn windrow_gateway_alarm(
 ) -> Answer
     ensures { AlarmSet s archive.now slot point kind transducer result archive.now }
 {
-    calls::windrow_gateway_alarm(s, archive, slot, point, kind, transducer)
+    let mut state = s;
+    let told = told_of(calls::alarm(&mut state, archive, slot, point, kind, transducer));
+    Answer {
+        number: told.number,
+        carried: told.carried,
+        state,
+    }
 }
 
 // Scan: the first that is accepted only remembers its Booleans; a later one, if running, captures and logs before it remembers.
@@ -103,7 +158,13 @@ pub extern "C" fn windrow_gateway_scan(
 ) -> Answer
     ensures { Scanned s archive.old table.now stamp result archive.new table.now }
 {
-    scan::windrow_gateway_scan(s, archive, table, stamp)
+    let mut state = s;
+    let told = told_of(scan::scan(&mut state, archive, table, stamp));
+    Answer {
+        number: told.number,
+        carried: told.carried,
+        state,
+    }
 }
 
 // Poll: answers a frame of any length and content at the start of the reply buffer, from the archive or the live table. Bytes past
@@ -119,9 +180,8 @@ pub extern "C" fn windrow_gateway_poll(
     ensures { Polled s archive.now table.now frame.now reply.old result
         archive.now table.now reply.new }
 {
-    // Not by the library's `windrow_gateway_poll`: the compiler would have a place of its own for its answer, 1.6 KB of stack more.
     let mut state = s;
-    let told = poll::poll_in_place(&mut state, archive, table, frame, reply);
+    let told = poll::told_of(poll::poll(&mut state, archive, table, frame, reply));
     PollAnswer {
         number: told.number,
         length: told.length,

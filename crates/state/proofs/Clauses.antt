@@ -1,30 +1,25 @@
--- A state that is not refused, clause by clause of row 2 of the service card. Assumes nothing.
+-- A state that is not refused, clause by clause. Assumes nothing.
 --     valid-split, valid-join    a valid state, and its clauses
 --     site-split, site-join      a valid site: its unit and its firmware
 --     state-taken, state-takes   neither Memory (1) nor Foreign (2) applies
---     state-other, state-foreign    one of them does
---     files-judged, files-fail, rest-valid    the parts of validity that the code judges one by one
---     files-good                 what valid files give
 --     within-split, within-join  numbers within their limits, one by one
---     all_same                   two lists of one length whose numbers are all the same
-use mathlib.Core.Path.{◌≡◌, refl, ap₂, ◌∙◌}
+use mathlib.Core.Path.{◌≡◌, refl}
 use mathlib.Core.List.{List}
 use mathlib.Core.Bool.{Bool, true, false, cond, not, ◌&&◌}
 use Prim.Native.Nat.{ℕ, ◌≤◌, ◌<◌}
 use native.Mathlib.Omega.{arith}
-use borrow.Author.Tests.{eqb-true, eq-eqb, ne_eqb, leb-true, le-leb}
+use borrow.Author.Tests.{eqb-true, eq-eqb, leb-true, le-leb}
 use lib.Dec.{eqb, leb}
-use lib.ListN.{length, get_or}
-use lib.Seq.{ext_get_or}
+use lib.ListN.{get_or}
 use Rattle.basics.proofs.Tests.{and_left, and_right}
 use Rattle.modbus.specs.Frame.{good_unit}
-use Rattle.archive.specs.Layout.{Layout, layout_of, every, good_files, has_room, limit_of, all_files}
+use Rattle.archive.specs.Layout.{Layout, good_files, has_room, limit_of, all_files}
 use Rattle.archive.specs.Alarms.{good_slots}
 use Rattle.archive.proofs.Layouts.{every-at, every-all}
 use Rattle.state.specs.declared.parts.Site.{Site}
 use Rattle.state.specs.declared.parts.State.{State}
 use Rattle.state.specs.Firmware.{good_firmware}
-use Rattle.state.specs.State.{depth_of, laid_out}
+use Rattle.state.specs.State.{laid_out}
 use Rattle.state.specs.Validity.{flags_valid, good_triggers, settings_valid, within_limits, files_valid, site_valid, valid, state_number}
 
 -- ---- a valid state
@@ -94,44 +89,6 @@ pub state-takes : (s : State) (size : ℕ) → size ≡ s.site.archive_length �
 unfolding state_number
 state-takes s size same v = simp (eq-eqb _ _ same, v)
 
-pub state-other : (s : State) (size : ℕ) → (size ≡ s.site.archive_length → ⊥) → 1 ≡ state_number s size
-unfolding state_number
-state-other s size other = simp (ne_eqb _ _ other)
-
-pub state-foreign : (s : State) (size : ℕ) → size ≡ s.site.archive_length → valid s ≡ false → 2 ≡ state_number s size
-unfolding state_number
-state-foreign s size same bad = simp (eq-eqb _ _ same, bad)
-
--- ---- a part that fails makes the whole fail
-never : (a : Bool) → (a && false) ≡ false
-never true = refl
-never false = refl
-
-module _ (s : State) where
-  abbrev files : Bool
-  files = files_valid (laid_out s) s.site.archive_length s.files.pointers s.line.requested
-
-  -- the depth and the length of memory that the code judges them by are the state's
-  pub files-judged : (depth size : ℕ) (good : Bool) → depth ≡ depth_of s.site → size ≡ s.site.archive_length →
-      good ≡ files_valid (layout_of s.files.layout depth) size s.files.pointers s.line.requested → good ≡ files
-  files-judged depth size good deep same judged =
-      judged ∙ ap₂ (λ d n. files_valid (layout_of s.files.layout d) n s.files.pointers s.line.requested) deep same
-
-  pub files-fail : files ≡ false → valid s ≡ false
-  unfolding valid
-  files-fail bad = simp (bad, never)
-
-  -- where the files are valid, the other parts decide
-  pub rest-valid : files ≡ true → (settings site r : Bool) → settings ≡ settings_valid s.settings → site ≡ site_valid s.site →
-      r ≡ flags_valid s.flags && (settings && site) → r ≡ valid s
-  unfolding valid
-  rest-valid laid settings site r settles lies told =
-      told ∙ ap₂ (λ x y. flags_valid s.flags && (x && y)) settles lies ∙ simp laid
-
-pub files-good : (l : Layout) (size : ℕ) (pointers requested : List ℕ) → files_valid l size pointers requested ≡ true → good_files l.groups ≡ true
-unfolding files_valid
-files-good l size pointers requested v = and_left (good_files l.groups) _ v
-
 -- ---- numbers within their limits
 pub within-split : (numbers : List ℕ) (l : Layout) → within_limits numbers l ≡ true → (f : ℕ) → f < all_files → get_or numbers f 0 ≤ limit_of l f
 unfolding within_limits
@@ -140,9 +97,3 @@ within-split numbers l holds f below = leb-true _ _ (every-at (λ i. leb (get_or
 pub within-join : (numbers : List ℕ) (l : Layout) → ((f : ℕ) → f < all_files → get_or numbers f 0 ≤ limit_of l f) → within_limits numbers l ≡ true
 unfolding within_limits
 within-join numbers l each = every-all (λ i. leb (get_or numbers i 0) (limit_of l i)) all_files (λ f below. le-leb _ _ (each f below))
-
--- ---- lists
-pub all_same : (xs ys : List ℕ) (n : ℕ) → length xs ≡ n → length ys ≡ n → every n (λ k. eqb (get_or xs k 0) (get_or ys k 0)) ≡ true → xs ≡ ys
-all_same xs ys n long-xs long-ys same =
-    ext_get_or 0 xs ys (omega (arith, long-xs, long-ys))
-    (λ k below. eqb-true _ _ (every-at (λ i. eqb (get_or xs i 0) (get_or ys i 0)) n k same (omega (arith, below, long-xs))))

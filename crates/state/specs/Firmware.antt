@@ -1,4 +1,4 @@
--- Document 02, L8, "Alarm depth by firmware": two firmwares are in use, which differ in how many records the alarm file has.
+-- Two firmwares are in use, which differ in how many records the alarm file has.
 use Rattle.std.specs.Prelude.{Bool, cond, ℕ, ◌*◌, ltb}
 use Rattle.basics.specs.Numbers.{within}
 use Rattle.archive.specs.Layout.{alarm_size}

@@ -1,20 +1,24 @@
 -- What the functions of this crate answer beside a number.
-use Rattle.std.specs.Prelude.{◌≡◌, List, true, ℕ}
-use Rattle.archive.specs.declared.layout.Measured.{Measured}
+use Rattle.std.specs.Prelude.{◌≡◌, List, Option, true, false, ℕ, MatchOption}
+use Rattle.archive.specs.declared.layout.File.{File}
 use Rattle.archive.specs.Layout.{Layout}
-use Rattle.archive.specs.Lent.{SizesOf}
-use Rattle.state.specs.declared.check.StateCheck.{StateCheck}
+use Rattle.archive.specs.Lent.{LaidOut}
 use Rattle.state.specs.declared.parts.State.{State}
-use Rattle.state.specs.State.{depth_of}
-use Rattle.state.specs.Validity.{files_valid, state_number}
+use Rattle.state.specs.State.{laid_out}
+use Rattle.state.specs.Validity.{files_valid, valid}
 
--- files judged: whether they are valid, and if so the bytes of each file's record
-pub record JudgedFiles (l : Layout) (size : ℕ) (pointers requested : List ℕ) (r : Measured) : Type 0 where
-  pub judged : r.good ≡ files_valid l size pointers requested
-  pub sized : r.good ≡ true → SizesOf l.groups r.sizes
+-- files that are valid, and where they lie
+pub record ValidFiles (l : Layout) (size : ℕ) (pointers requested : List ℕ) (files : List File) : Type 0 where
+  pub valid : files_valid l size pointers requested ≡ true
+  pub laid : LaidOut l files
 
--- a state checked: its number, and if that is done the bytes of each laid-out file's record and the depth of the alarm file
-pub record Checks (s : State) (size : ℕ) (r : StateCheck) : Type 0 where
-  pub number : r.number ≡ state_number s size
-  pub sized : r.number ≡ 0 → SizesOf s.files.layout.groups r.sizes
-  pub deep : r.number ≡ 0 → r.depth ≡ depth_of s.site
+-- files judged: where they lie if they are valid
+abbrev pub JudgedFiles : Layout → ℕ → List ℕ → List ℕ → Option (List File) → Type 0
+JudgedFiles l size pointers requested r =
+    MatchOption r (files_valid l size pointers requested ≡ false) (ValidFiles l size pointers requested)
+
+-- a state that is taken with an archive of this length, and where its files lie
+pub record IsTaken (s : State) (size : ℕ) (files : List File) : Type 0 where
+  pub same : size ≡ s.site.archive_length
+  pub sound : valid s ≡ true
+  pub laid : LaidOut (laid_out s) files

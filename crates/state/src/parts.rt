@@ -1,11 +1,14 @@
-// The gateway's state, document 01, "The plain machine", in parts by what writes them. It goes into each call by value and comes back
-// by value. The parts leave no padding byte, so that a stored state can be compared and summed byte by byte.
+// The gateway's state, in parts by what writes them. A call changes it where it stands; C hands it in and gets it back by value. The
+// parts leave no padding byte, so that a stored state can be compared and summed byte by byte.
+ghost use Rattle.std.specs.Prelude.{◌≡◌};
+ghost use Rattle.state.specs.State.{fresh_state};
+
 use archive::alarms::Slot;
 use archive::layout::Definitions;
 
-// What Fresh fixes: the archive memory's length, our unit, the date order and the firmware (document 02, L8).
+// What Fresh fixes: the archive memory's length, our unit, the date order and the firmware.
 #[repr(C)]
-#[derive(Clone, Copy)]
+#[derive(Clone, Copy, Debug, PartialEq, Eq)]
 pub struct Site {
     pub archive_length: u32,
     pub unit: u8,
@@ -14,7 +17,7 @@ pub struct Site {
 }
 
 #[repr(C)]
-#[derive(Clone, Copy)]
+#[derive(Clone, Copy, Debug, PartialEq, Eq)]
 pub struct Flags {
     pub running: bool,
     pub unlocked: bool,
@@ -23,7 +26,7 @@ pub struct Flags {
 
 // `scanned` says that a scan was accepted, and `booleans` are then the latest one's.
 #[repr(C)]
-#[derive(Clone, Copy)]
+#[derive(Clone, Copy, Debug, PartialEq, Eq)]
 pub struct Seen {
     pub scanned: bool,
     pub booleans: [u8; 16],
@@ -31,7 +34,7 @@ pub struct Seen {
 
 // The pointers are those of files 1 to 11; the alarm file's is the last.
 #[repr(C)]
-#[derive(Clone, Copy)]
+#[derive(Clone, Copy, Debug, PartialEq, Eq)]
 pub struct Files {
     pub layout: Definitions,
     pub pointers: [u16; 11],
@@ -39,13 +42,13 @@ pub struct Files {
 
 // The requested numbers, of files 1 to 11.
 #[repr(C)]
-#[derive(Clone, Copy)]
+#[derive(Clone, Copy, Debug, PartialEq, Eq)]
 pub struct Line {
     pub requested: [u16; 11],
 }
 
 #[repr(C)]
-#[derive(Clone, Copy)]
+#[derive(Clone, Copy, Debug, PartialEq, Eq)]
 pub struct Settings {
     pub draft: Definitions,
     pub triggers: [u16; 10],
@@ -54,7 +57,7 @@ pub struct Settings {
 
 // The settings come last: what stands behind 32 slots is hard to find for the prover.
 #[repr(C)]
-#[derive(Clone, Copy)]
+#[derive(Clone, Copy, Debug, PartialEq, Eq)]
 pub struct State {
     pub site: Site,
     pub flags: Flags,
@@ -62,4 +65,49 @@ pub struct State {
     pub files: Files,
     pub line: Line,
     pub settings: Settings,
+}
+
+impl State {
+    // A new gateway's: all flags off, files idle, triggers and slots 0, pointers and requested numbers 0.
+    #[tactic(auto, unfolding(crate::specs::State::fresh_state))]
+    pub fn fresh(day_first: bool, unit: u8, firmware: u16, archive_length: u32) -> State
+        ensures { result ≡ fresh_state day_first unit firmware archive_length }
+    {
+        let idle = Definitions {
+            groups: [0; 320],
+            limits: [0; 10],
+        };
+        let off = Slot {
+            point: 0,
+            transducer: 0,
+            kind: 0,
+        };
+        State {
+            site: Site {
+                archive_length,
+                unit,
+                day_first,
+                firmware,
+            },
+            flags: Flags {
+                running: false,
+                unlocked: false,
+                pending: false,
+            },
+            seen: Seen {
+                scanned: false,
+                booleans: [0; 16],
+            },
+            files: Files {
+                layout: idle,
+                pointers: [0; 11],
+            },
+            line: Line { requested: [0; 11] },
+            settings: Settings {
+                draft: idle,
+                triggers: [0; 10],
+                slots: [off; 32],
+            },
+        }
+    }
 }

@@ -1,30 +1,58 @@
-// What makes a state Foreign, document 01, row 2 of the service card.
-ghost use Rattle.std.specs.Prelude.{◌≡◌, true, ◌&&◌, List, ℕ, eqb, length, get_or};
-ghost use Rattle.archive.specs.Layout.{every, is_good, good_files, layout_from};
+// What makes a state Foreign: a part that is against its rule.
+ghost use Rattle.std.specs.Prelude.{◌≡◌, true, eqb, get_or};
+ghost use Rattle.std.specs.List.{list_all};
+ghost use Rattle.points.specs.Table.{boolean_or_none};
 ghost use Rattle.archive.specs.Alarms.{good_slot, good_slots};
-ghost use Rattle.state.specs.Validity.{good_triggers, within_limits};
+ghost use Rattle.archive.specs.Layout.{Layout, every, is_good, good_files, layout_of};
+ghost use Rattle.archive.specs.Lent.{LaidOut};
+ghost use Rattle.state.specs.State.{depth_of};
+ghost use Rattle.state.specs.Validity.{flags_valid, site_valid, settings_valid, within_limits};
 ghost use Rattle.state.specs.Lent.{JudgedFiles};
 
+use crate::firmware::{alarm_depth, is_firmware_good};
+use crate::parts::{Files, Flags, Settings, Site};
 use archive::alarms::Slot;
-use archive::layout::{Measured, good_size, layout_size, measure};
+use archive::layout::{ALARM_FILE, Definitions, FILES, File, end_of};
+use points::groups::judge;
 use points::table::{is_boolean_or_none, is_float_or_none};
 
-// Whether each of the ten triggers is a Boolean or 0.
-fn are_triggers_good(triggers: &[u16]) -> bool
-    requires { length triggers.now ≡ 10 }
-    ensures { result ≡ good_triggers triggers.now }
-{
-    let mut i: usize = 0;
-    while i < 10 {
-        if !is_boolean_or_none(triggers[i] as u32) {
-            return false;
-        }
-        i += 1;
+impl Site {
+    // Whether unit and firmware are valid.
+    #[tactic(auto, unfolding(crate::specs::Validity::site_valid))]
+    pub fn is_valid(&self) -> bool
+        ensures { result ≡ site_valid self.now }
+    {
+        (1..=247).contains(&self.unit) & is_firmware_good(u32::from(self.firmware))
     }
-    true
+
+    // The most records of the site's alarm file.
+    pub fn alarm_depth(&self) -> u16
+        ensures { result ≡ depth_of self.now }
+    {
+        alarm_depth(u32::from(self.firmware))
+    }
+}
+
+impl Flags {
+    // Running and unlocked are not both on.
+    pub fn is_valid(&self) -> bool
+        ensures { result ≡ flags_valid self.now }
+    {
+        !(self.running & self.unlocked)
+    }
+}
+
+// Whether each of the ten triggers is a Boolean or 0.
+fn are_triggers_good(triggers: &[u16; 10]) -> bool
+    ensures { result ≡ list_all boolean_or_none triggers.now }
+{
+    triggers
+        .iter()
+        .all(|trigger| is_boolean_or_none(u32::from(*trigger)))
 }
 
 // Whether an alarm slot's three fields keep their rules, even when it is off.
+#[tactic(auto, unfolding(archive::specs::Alarms::good_slot))]
 pub fn is_slot_good(point: u32, kind: u32, transducer: u32) -> bool
     ensures { result ≡ good_slot point kind transducer }
 {
@@ -32,123 +60,108 @@ pub fn is_slot_good(point: u32, kind: u32, transducer: u32) -> bool
 }
 
 // Whether each of the 32 slots keeps its rules. Nearly always all do, so the loop has no early end.
-fn are_slots_good(slots: [Slot; 32]) -> bool
-    ensures { result ≡ good_slots slots }
+fn are_slots_good(slots: &[Slot; 32]) -> bool
+    ensures { result ≡ good_slots slots.now }
 {
     let mut good = true;
-    let mut i: usize = 0;
-    while i < 32 {
-        let slot = slots[i];
-        good = good & is_slot_good(slot.point as u32, slot.kind as u32, slot.transducer as u32);
-        i += 1;
+    for slot in slots {
+        good &= is_slot_good(
+            u32::from(slot.point),
+            u32::from(slot.kind),
+            u32::from(slot.transducer),
+        );
     }
     good
 }
 
-// Whether two definitions are the same. The loop looks at all numbers, so that it runs many at a time.
-fn are_same(a: &[u16], b: &[u16]) -> bool
-    requires { (length a.now ≡ 32) × (length b.now ≡ 32) }
+// Whether 32 numbers keep the rules of a definition.
+#[tactic(auto, unfolding(archive::specs::Layout::is_good))]
+fn is_definition_good(groups: &[u16; 32]) -> bool
+    ensures { result ≡ is_good groups.now }
+{
+    judge(groups).is_ok()
+}
+
+// Whether two definitions are the same. The loop looks at all numbers, so that it runs many at a time: `==` ends at the first that
+// differs, and each call takes a tenth longer with it.
+fn are_same(a: &[u16; 32], b: &[u16; 32]) -> bool
     ensures { result ≡ every 32 (λ k. eqb (get_or a.now k 0) (get_or b.now k 0)) }
 {
-    let mut equal = true;
-    let mut i: usize = 0;
-    while i < 32 {
-        equal = equal & (a[i] == b[i]);
-        i += 1;
+    let mut same = true;
+    for (k, number) in a.iter().enumerate() {
+        same &= *number == b[k];
     }
-    equal
+    same
 }
 
 // Whether a drafted definition keeps its rules, where the laid-out one does: after a Start both are the same.
-fn is_draft_good(draft: &[u16], laid: &[u16]) -> bool
-    requires { (length draft.now ≡ 32) × (length laid.now ≡ 32) × (is_good laid.now ≡ true) }
+fn is_draft_good(draft: &[u16; 32], laid: &[u16; 32]) -> bool
+    requires { is_good laid.now ≡ true }
     ensures { result ≡ is_good draft.now }
 {
-    if are_same(draft, laid) {
-        return true;
-    }
-    good_size(draft) != 0
+    are_same(draft, laid) || is_definition_good(draft)
 }
 
 // Whether all drafted definitions keep their rules, where the laid-out ones do.
-fn are_drafts_good(drafts: &[u16], laid: &[u16]) -> bool
-    requires { (length drafts.now ≡ 320) × (length laid.now ≡ 320) × (good_files laid.now ≡ true) }
-    ensures { result ≡ good_files drafts.now }
+fn are_drafts_good(drafts: &Definitions, laid: &Definitions) -> bool
+    requires { good_files laid.now.groups ≡ true }
+    ensures { result ≡ good_files drafts.now.groups }
 {
-    let mut f: usize = 0;
-    while f < 10 {
-        if !is_draft_good(&drafts[32 * f..32 * f + 32], &laid[32 * f..32 * f + 32]) {
+    for f in 0..ALARM_FILE {
+        if !is_draft_good(drafts.groups_of(f), laid.groups_of(f)) {
             return false;
         }
-        f += 1;
     }
     true
 }
 
-// Whether drafts, triggers and slots, which calls set one by one, keep their rules, where the laid-out definitions do.
-pub fn are_settings_valid<'a>(
-    drafts: &'a [u16],
-    laid: &'a [u16],
-    triggers: &'a [u16],
-    slots: [Slot; 32],
-) -> bool
-    requires lengths { (length drafts.now ≡ 320) × (length laid.now ≡ 320)
-        × (length triggers.now ≡ 10) }
-    requires laid_good { good_files laid.now ≡ true }
-    ensures { result ≡ good_files drafts.now && (good_triggers triggers.now && good_slots slots) }
-{
-    if !are_drafts_good(drafts, laid) {
-        return false;
+impl Settings {
+    // Whether drafts, triggers and slots, which calls set one by one, keep their rules, where the laid-out definitions do.
+    #[tactic(auto, using(crate::proofs::Every::triggers_good), unfolding(crate::specs::Validity::settings_valid))]
+    pub fn is_valid(&self, laid: &Definitions) -> bool
+        requires { good_files laid.now.groups ≡ true }
+        ensures { result ≡ settings_valid self.now }
+    {
+        are_drafts_good(&self.draft, laid)
+            && are_triggers_good(&self.triggers)
+            && are_slots_good(&self.slots)
     }
-    if !are_triggers_good(triggers) {
-        return false;
-    }
-    are_slots_good(slots)
 }
 
-// Whether no number of files 1 to 10 is over its file's n, nor the alarm file's over its depth.
-fn are_within(numbers: &[u16], limits: &[u16], depth: u16) -> bool
-    requires { (length numbers.now ≡ 11) × (length limits.now ≡ 10) }
-    ensures { (groups : List ℕ) →
-        result ≡ within_limits numbers.now (layout_from groups limits.now depth) }
+// Whether no pointer, or no requested number, is over its file's n.
+fn are_within(numbers: &[u16; FILES], files: &[File; FILES]) -> bool
+    ensures { (l : Layout) → LaidOut l files.now → result ≡ within_limits numbers.now l }
 {
-    let mut i: usize = 0;
-    while i < 10 {
-        if limits[i] < numbers[i] {
+    for (f, file) in files.iter().enumerate() {
+        if file.limit < numbers[f] {
             return false;
         }
-        i += 1;
     }
-    numbers[10] <= depth
+    true
 }
 
-// Judges and measures laid-out definitions, and judges whether the layout fits the archive and no number is over its n.
-pub fn judge_files<'a>(
-    groups: &'a [u16],
-    limits: &'a [u16],
-    depth: u16,
-    size: usize,
-    pointers: &'a [u16],
-    requested: &'a [u16],
-) -> Measured
-    requires { (length groups.now ≡ 320) × (length limits.now ≡ 10) × (length pointers.now ≡ 11)
-        × (length requested.now ≡ 11) }
-    ensures { JudgedFiles (layout_from groups.now limits.now depth)
-        size pointers.now requested.now result }
-{
-    let measured = measure(groups);
-    let sizes = measured.sizes;
-    if !measured.good {
-        return Measured { good: false, sizes };
-    }
-    if size < layout_size(groups, limits, &sizes, depth) {
-        return Measured { good: false, sizes };
-    }
-    if !are_within(pointers, limits, depth) {
-        return Measured { good: false, sizes };
-    }
-    Measured {
-        good: are_within(requested, limits, depth),
-        sizes,
+impl Files {
+    // Where the laid-out files lie, if their definitions are good, they fit the archive, and no pointer or requested number is over its n.
+    #[tactic(auto, unfolding(crate::specs::Validity::files_valid, archive::specs::Layout::has_room))]
+    pub fn laid_out(
+        &self,
+        requested: &[u16; FILES],
+        depth: u16,
+        size: usize,
+    ) -> Option<[File; FILES]>
+        ensures { JudgedFiles (layout_of self.now.layout depth)
+            size self.now.pointers requested.now result }
+    {
+        let files = self.layout.files(depth)?;
+        if size < end_of(&files) {
+            return None;
+        }
+        if !are_within(&self.pointers, &files) {
+            return None;
+        }
+        if !are_within(requested, &files) {
+            return None;
+        }
+        Some(files)
     }
 }

@@ -1,5 +1,4 @@
-use mathlib.Core.Path.{◌≡◌, ap₂, sym}
-use mathlib.Core.Bool.{◌&&◌}
+use mathlib.Core.Path.{◌≡◌, sym}
 use native.Mathlib.Omega.{arith}
 use native.Mathlib.Numerals.{add-one}
 use Rattle.archive.specs.Layout.{every}
@@ -7,15 +6,16 @@ use Rattle.archive.specs.Alarms.{good_slots}
 use Rattle.archive.proofs.Layouts.{every-none}
 use Rattle.state.proofs.validity.are_slots_good.Goals as goal
 
-pub loop-i-init : goal.loop-i-init
-loop-i-init c = (omega arith, sym (every-none _))
+pub loop-slot-init : goal.loop-slot-init
+loop-slot-init c = sym (every-none _)
 
-pub loop-i-preserved : goal.loop-i-preserved
+pub loop-slot-preserved : goal.loop-slot-preserved
 unfolding every
-loop-i-preserved c = (omega arith, rw add-one (ap₂ ◌&&◌ c.loop-i.invariant.1 c.is_slot_good-good.ensures))
+loop-slot-preserved c =
+    rw add-one (simp (c.loop-slot.invariant, c.is_slot_good-good.ensures, c.from.ensures, c.from-in-loop-slot.ensures, c.from-in-loop-slot-2.ensures))
 
 pub returns : goal.returns
 unfolding good_slots
 returns c =
-    let all : c.loop-i.i ≡ 32 = omega arith in
-    rw all at c.loop-i.invariant.1
+    let all : c.loop-slot.slot-index ≡ 32 = omega arith in
+    rw all at c.loop-slot.invariant

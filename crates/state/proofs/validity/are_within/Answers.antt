@@ -1,46 +1,30 @@
-use mathlib.Core.Path.{◌≡◌, sym}
-use mathlib.Core.Bool.{true}
+use mathlib.Core.Path.{◌≡◌, sym, ap}
+use Prim.Native.Nat.{◌<◌}
 use native.Mathlib.Omega.{arith}
 use lib.Dec.{leb}
 use lib.ListN.{get_or}
-use borrow.Author.Tests.{le-leb, lt-leb}
-use Rattle.archive.specs.Layout.{every}
-use Rattle.archive.proofs.Layouts.{every-none, every-next, every-fails, limit-file}
-use Rattle.archive.specs.Layout.{layout_from, limit_of}
+use borrow.Author.Tests.{lt-leb}
+use Rattle.archive.specs.declared.layout.File.{File}
+use Rattle.archive.specs.Layout.{limit_of}
+use Rattle.archive.proofs.Layouts.{every-fails}
 use Rattle.state.specs.Validity.{within_limits}
+use Rattle.state.proofs.Clauses.{within-join}
 use Rattle.state.proofs.validity.are_within.Goals as goal
 
-pub loop-i-init : goal.loop-i-init
-loop-i-init c = (omega arith, λ groups. every-none _)
-
-pub returns-then-limits-i : goal.returns-then-limits-i
+pub returns-then-file-numbers : goal.returns-then-file-numbers
 unfolding within_limits
-returns-then-limits-i c =
+returns-then-file-numbers c =
     let a = c.args in
-    let i = c.loop-i.i in
-    λ groups.
-    let l = layout_from groups a.limits.now a.depth in
-    sym (every-fails (λ k. leb (get_or a.numbers.now k 0) (limit_of l k)) 11 i (omega arith)
-    (rw (limit-file l i c.loop-i-test.true) (lt-leb _ _ c.if-limits-i.true)))
-
-pub loop-i-preserved : goal.loop-i-preserved
-loop-i-preserved c =
-    let a = c.args in
-    let at = c.loop-i in (
-      omega arith,
-      λ groups.
-          let l = layout_from groups a.limits.now a.depth in
-          every-next (λ k. leb (get_or a.numbers.now k 0) (limit_of l k)) at.i (at.invariant.1 groups)
-          (rw (limit-file l at.i c.loop-i-test.true) (le-leb _ _ c.if-limits-i.false)),
-    )
+    let f = c.loop-f.f in
+    λ l laid.
+    let below : f < 11 = omega arith in
+    let limit = ap (λ (x : File). x.limit) (laid.each f below) in
+    sym (every-fails (λ k. leb (get_or a.numbers.now k 0) (limit_of l k)) 11 f below (lt-leb _ _ (omega (arith, limit, c.if-file-numbers.true))))
 
 pub returns : goal.returns
-unfolding within_limits every limit_of
 returns c =
     let a = c.args in
-    let at = c.loop-i in
-    let all : at.i ≡ 10 = omega arith in
-    λ groups.
-    let l = layout_from groups a.limits.now a.depth in
-    let first : every 10 (λ k. leb (get_or a.numbers.now k 0) (limit_of l k)) ≡ true = rw all at (at.invariant.1 groups) in
-    simp first
+    let at = c.loop-f in
+    λ l laid.
+    sym (within-join a.numbers.now l
+    (λ f below. let limit = ap (λ (x : File). x.limit) (laid.each f below) in omega (arith, limit, at.invariant f (omega (arith, below)))))
