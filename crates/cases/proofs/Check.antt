@@ -11,7 +11,7 @@ use Rattle.records.specs.Record.{captured_groups, record_of}
 use Rattle.records.specs.Capture.{flags, from_bits, packed_byte, text_byte, captured_byte, captured_points}
 use Rattle.records.specs.Value.{bytes_in_table, value_in_table, bytes_in_stretch, value_in_stretch}
 use Rattle.reader.specs.Frame.{is_reply, record_checked, reply_checked, frame_checked, stretch_checked}
-use Rattle.reader.specs.Answers.{record_found, record_answer, point_value}
+use Rattle.reader.specs.Answers.{found_record, record_answer, point_value}
 use Rattle.archive.specs.Layout.{every, is_good, good_files, limit_of, size_of, base_of, layout_size, has_room}
 use Rattle.archive.specs.Ring.{slot_after, captured, captured_all, pointer_after, record_after}
 use Rattle.archive.specs.Booleans.{is_on}
@@ -29,5 +29,5 @@ use Rattle.gateway.specs.Poll.{poll_view, poll_number, poll_buffer}
 use Rattle.cases.specs.Marked.{marked, all_hold}
 
 pub marked-cases-hold : all_hold marked ≡ true
-unfolding marked judged record_size groups_size first_bad group_of unused ends_in_row points_size row_of in_row rows tabulate stamp_bytes flags from_bits packed_byte text_byte captured_byte captured_points bytes_in_table value_in_table float_or_none every is_good good_files good_firmware alarm_depth fresh_state boolean_or_none good_triggers site_valid valid state_number unlock_answer lock_answer definition_answer define_answer start_answer fresh_number fresh_answer trigger_answer slot_after captured captured_all pointer_after record_after is_on logs alarms_at alarms_from alarms_in_order date_in_range time_in_range in_range captured_groups record_of scan_number archive_left scan_answer scan_memory limit_of size_of base_of layout_size has_room good_slot good_slots within_limits files_valid settings_valid does_capture file_records records_logged appended files_scanned crc_shift crc_shifts crc_byte crc_from crc_of with_crc ends_in_crc read_reply_by high_bit_set exception_reply stamp_from is_reply record_checked reply_checked frame_checked record_found record_answer stretch_checked point_value bytes_in_stretch value_in_stretch record_asked points_asked read_asked is_heard asked reply_of reply_to poll_view poll_number poll_buffer
+unfolding marked judged record_size groups_size first_bad group_of unused ends_in_row points_size row_of in_row rows tabulate stamp_bytes flags from_bits packed_byte text_byte captured_byte captured_points bytes_in_table value_in_table float_or_none every is_good good_files good_firmware alarm_depth fresh_state boolean_or_none good_triggers site_valid valid state_number unlock_answer lock_answer definition_answer define_answer start_answer fresh_number fresh_answer trigger_answer slot_after captured captured_all pointer_after record_after is_on logs alarms_at alarms_from alarms_in_order date_in_range time_in_range in_range captured_groups record_of scan_number archive_left scan_answer scan_memory limit_of size_of base_of layout_size has_room good_slot good_slots within_limits files_valid settings_valid does_capture file_records records_logged appended files_scanned crc_shift crc_shifts crc_byte crc_from crc_of with_crc ends_in_crc read_reply_by high_bit_set exception_reply stamp_from is_reply record_checked reply_checked frame_checked found_record record_answer stretch_checked point_value bytes_in_stretch value_in_stretch record_asked points_asked read_asked is_heard asked reply_of reply_to poll_view poll_number poll_buffer
 marked-cases-hold = refl

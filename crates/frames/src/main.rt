@@ -2,7 +2,7 @@
 // tests/frames/expected.py computes the same lines apart from this program.
 #![tactic(auto)]
 
-ghost use Rattle.std.specs.Prelude.{◌≡◌, ◌+◌, ◌*◌, ◌≤◌, ◌<◌, length};
+ghost use Rattle.std.specs.Prelude.{◌≡◌, ◌+◌, ◌*◌, ◌≤◌, ◌<◌, ◌-◌, length, take};
 
 use modbus::crc::{crc_of, ends_in_crc};
 use std::io;
@@ -59,7 +59,9 @@ fn refused_swapped(frame: &[u8]) -> bool
 }
 
 // A frame without its last k bytes; nothing where it has fewer.
-fn without_last(frame: &[u8], k: usize) -> &[u8] {
+fn without_last(frame: &[u8], k: usize) -> &[u8]
+    ensures { result.now ≡ take (length frame.now - k) frame.now }
+{
     &frame[..frame.len().saturating_sub(k)]
 }
 

@@ -20,7 +20,7 @@ use Rattle.std.specs.Prelude.{Ok, Err}
 use Rattle.points.specs.Groups.{record_size, judged}
 use Rattle.points.proofs.Laws.{judged-done}
 use Rattle.reader.specs.Frame.{is_reply, record_part, record_checked, reply_checked, frame_checked, stretch_checked}
-use Rattle.reader.specs.Answers.{record_found, stretch_found, stamp_found, record_answer, stretch_answer, stamp_answer, point_value}
+use Rattle.reader.specs.Answers.{found_record, found_stretch, found_stamp, record_answer, stretch_answer, stamp_answer, point_value}
 use Rattle.reader.proofs.ReadsBack.{gets_back}
 use Rattle.archive.specs.Layout.{definition, defined_files, all_files, is_good, good_files, limit_of}
 use Rattle.archive.proofs.Layouts.{every-at, size-file}
@@ -78,7 +78,7 @@ module _ (unit size : ℕ) (gs : List ℕ) (day_first : Bool) (ours : good_unit 
   frame-empty = simp (good, frame-replies, frame-part, all-zeros size)
 
   pub tells-empty : TellsEmpty gs day_first frame
-  unfolding record_answer stamp_answer stretch_answer record_found stamp_found stretch_found stretch_checked point_value
+  unfolding record_answer stamp_answer stretch_answer found_record found_stamp found_stretch stretch_checked point_value
   tells-empty = record { whole = simp frame-empty; stamp = simp frame-empty; stretch = λ g. simp frame-empty; point = λ g e. simp frame-empty }
 
 -- ---- the frame that goes out

@@ -12,7 +12,7 @@ use Rattle.records.specs.declared.stamp.Stamp.{Stamp}
 use Rattle.records.specs.Stamp.{in_range}
 use Rattle.records.specs.Record.{record_of}
 use Rattle.reader.specs.declared.answers.Value.TheVariants.{Refused}
-use Rattle.reader.specs.Answers.{part_told, stamp_told, record_answer, stretch_answer, stamp_answer, point_answer, point_value}
+use Rattle.reader.specs.Answers.{told_of_part, told_of_stamp, record_answer, stretch_answer, stamp_answer, point_answer, point_value}
 use Rattle.reader.specs.ReadsBack.{GetsBack}
 use Rattle.archive.specs.Layout.{definition, defined_files}
 use Rattle.state.specs.declared.parts.State.{State}
@@ -38,9 +38,9 @@ made_by by day_first gs = record_of day_first by.stamp by.table gs
 
 -- the reading end tells Empty (15), whatever it is asked of the frame
 pub record TellsEmpty (gs : List ℕ) (day_first : Bool) (frame : List ℕ) : Type 0 where
-  pub whole : record_answer gs day_first frame ≡ part_told (Err Empty)
-  pub stamp : stamp_answer gs day_first frame ≡ stamp_told (Err Empty)
-  pub stretch : (g : ℕ) → stretch_answer gs day_first frame g ≡ part_told (Err Empty)
+  pub whole : record_answer gs day_first frame ≡ told_of_part (Err Empty)
+  pub stamp : stamp_answer gs day_first frame ≡ told_of_stamp (Err Empty)
+  pub stretch : (g : ℕ) → stretch_answer gs day_first frame g ≡ told_of_part (Err Empty)
   pub point : (g e : ℕ) → point_answer (point_value gs day_first frame g e) ≡ point_answer (Refused Empty)
 
 -- what the frame that was sent is, and what the reading end makes of it

@@ -49,10 +49,10 @@ code_of IllegalAddress = illegal_address
 code_of IllegalValue = illegal_value
 
 -- ---- the functions that a gateway knows: 01 reads flags, 03 all else, 06 writes a requested number; another is exception 01
-abbrev pub number_of : Function → ℕ
-number_of ReadFlags = 1
-number_of Read = 3
-number_of Write = 6
+abbrev pub function_number : Function → ℕ
+function_number ReadFlags = 1
+function_number Read = 3
+function_number Write = 6
 
 abbrev pub function_by : ℕ → Result Function Exception
 function_by number =

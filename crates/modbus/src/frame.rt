@@ -19,9 +19,9 @@ pub enum Function {
 
 impl From<Function> for u8 {
     ghost use Rattle.std.specs.Prelude.{◌≡◌};
-    ghost use Rattle.modbus.specs.Frame.{number_of};
+    ghost use Rattle.modbus.specs.Frame.{function_number};
 
-    ghost from_gives = { λ function number. number ≡ number_of function };
+    ghost from_gives = { λ function number. number ≡ function_number function };
 
     fn from(function: Function) -> u8 {
         function as u8

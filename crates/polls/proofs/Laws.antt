@@ -28,7 +28,7 @@ use Rattle.modbus.specs.Crc.{ends_in_crc}
 use Rattle.modbus.specs.declared.frame.Function.{Function}
 use Rattle.modbus.specs.declared.frame.Function.TheVariants.{ReadFlags, Read, Write}
 use Rattle.modbus.specs.declared.frame.Exception.{Exception}
-use Rattle.modbus.specs.Frame.{Sent, unit_of, function_of, address_of, quantity_of, number_of, function_by}
+use Rattle.modbus.specs.Frame.{Sent, unit_of, function_of, address_of, quantity_of, function_number, function_by}
 use Rattle.points.specs.declared.table.Row.{Row}
 use Rattle.points.specs.Table.{row_of, points_size}
 use Rattle.points.specs.Groups.{ends_in_row, group_of}
@@ -88,7 +88,7 @@ module _ (limit : ℕ → ℕ) where
 
   live-passed : (function : Function) (found : Option Row) (p q : ℕ) → row_of p ≡ found → Passed limit (live_asked function found p q)
   live-passed function None p q looked = tt
-  live-passed function (Some r) p q looked = by_cond Fine (eqb (number_of function) (number_of (function_for r))) _ _ (λ _. points-passed r p q looked) (λ _. tt)
+  live-passed function (Some r) p q looked = by_cond Fine (eqb (function_number function) (function_number (function_for r))) _ _ (λ _. points-passed r p q looked) (λ _. tt)
 
   read-passed : (requested : List ℕ) (a q : ℕ) → Passed limit (read_asked limit requested a q)
   unfolding read_asked

@@ -6,7 +6,7 @@ use Rattle.modbus.specs.declared.frame.Function.{Function}
 use Rattle.modbus.specs.declared.frame.Function.TheVariants.{ReadFlags, Read}
 use Rattle.modbus.specs.declared.frame.Exception.{Exception}
 use Rattle.modbus.specs.declared.frame.Exception.TheVariants.{IllegalAddress, IllegalValue}
-use Rattle.modbus.specs.Frame.{number_of}
+use Rattle.modbus.specs.Frame.{function_number}
 use Rattle.points.specs.declared.table.Row.{Row}
 use Rattle.points.specs.Table.{row_of, is_bits, points_size}
 use Rattle.points.specs.Groups.{ends_in_row}
@@ -77,7 +77,7 @@ function_for r = cond (is_bits r) ReadFlags Read
 -- from address p on, whose row has been looked up; a start that is no point, or one of another function's, is exception 02
 abbrev pub live_asked : Function → Option Row → ℕ → ℕ → Result Asked Exception
 live_asked function None p q = Err IllegalAddress
-live_asked function (Some r) p q = cond (eqb (number_of function) (number_of (function_for r))) (points_asked r p q) (Err IllegalAddress)
+live_asked function (Some r) p q = cond (eqb (function_number function) (function_number (function_for r))) (points_asked r p q) (Err IllegalAddress)
 
 -- ---- 01
 abbrev pub flags_asked : ℕ → ℕ → Result Asked Exception

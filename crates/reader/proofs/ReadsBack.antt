@@ -39,7 +39,7 @@ use Rattle.records.specs.Value.{PointValue, flag, int16, int32, float, text, val
 use Rattle.records.proofs.Laws.{length-record as record-length}
 use Rattle.records.proofs.Found.{stamp-back, record-not-zero, record-stretch, own-inside, found-value}
 use Rattle.reader.specs.Frame.{is_reply, record_part, record_checked, reply_checked, frame_checked, stretch_checked, stretch_from, stretch_length, stretch_part}
-use Rattle.reader.specs.Answers.{answered, point_in, point_found, point_value, record_found, stamp_found, record_answer, stamp_answer, point_answer}
+use Rattle.reader.specs.Answers.{answered, point_in, point_found, point_value, found_record, found_stamp, record_answer, stamp_answer, point_answer}
 use Rattle.reader.proofs.Laws.{place_inside, named-is, value_of_lem, flag-of}
 use Rattle.reader.specs.ReadsBack.{record_reply, told_by, kind_number, GetsBack}
 use Rattle.reader.proofs.Told.{numbers-tell, table_fits}
@@ -214,7 +214,7 @@ module _ (unit size : ℕ) (d : Bool) (s : Stamp) (t gs : List ℕ)
           )
 
   pub gets_back : GetsBack unit size d s t gs
-  unfolding record_answer stamp_answer record_found stamp_found p n
+  unfolding record_answer stamp_answer found_record found_stamp p n
   gets_back =
       record {
         whole = simp frame-done;

@@ -22,14 +22,14 @@ use Rattle.reader.specs.Frame.{and_then, record_at, frame_checked, stretch_check
 abbrev pub part : ℕ → ℕ → Part
 part place length = record { place = place; length = length }
 
-unfoldable pub record_found : List ℕ → Bool → List ℕ → Result Part Refusal
-record_found gs d f = and_then (frame_checked gs d f) (λ size. Ok (part record_at size))
+unfoldable pub found_record : List ℕ → Bool → List ℕ → Result Part Refusal
+found_record gs d f = and_then (frame_checked gs d f) (λ size. Ok (part record_at size))
 
-unfoldable pub stretch_found : List ℕ → Bool → List ℕ → ℕ → Result Part Refusal
-stretch_found gs d f g = and_then (stretch_checked gs d f g) (λ size. Ok (part (record_at + stretch_from gs g) (stretch_length gs g)))
+unfoldable pub found_stretch : List ℕ → Bool → List ℕ → ℕ → Result Part Refusal
+found_stretch gs d f g = and_then (stretch_checked gs d f g) (λ size. Ok (part (record_at + stretch_from gs g) (stretch_length gs g)))
 
-unfoldable pub stamp_found : List ℕ → Bool → List ℕ → Result Stamp Refusal
-stamp_found gs d f = and_then (frame_checked gs d f) (λ size. Ok (stamp_from d (record_part f size)))
+unfoldable pub found_stamp : List ℕ → Bool → List ℕ → Result Stamp Refusal
+found_stamp gs d f = and_then (frame_checked gs d f) (λ size. Ok (stamp_from d (record_part f size)))
 
 -- ---- the value of point e of place g, both counted from 1
 -- a value as the reading end answers it; a text by its place in the frame and its length
@@ -61,29 +61,29 @@ point_value gs d f g e = point_found (stretch_checked gs d f g) gs f g e
 abbrev pub part_answer : Card → ℕ → ℕ → PartAnswer
 part_answer c place length = record { number = c.number; carried = c.carried; place = place; length = length }
 
-abbrev pub part_told : Result Part Refusal → PartAnswer
-part_told (Ok found) = part_answer done_card found.place found.length
-part_told (Err refusal) = part_answer (card_of refusal) 0 0
+abbrev pub told_of_part : Result Part Refusal → PartAnswer
+told_of_part (Ok found) = part_answer done_card found.place found.length
+told_of_part (Err refusal) = part_answer (card_of refusal) 0 0
 
 unfoldable pub record_answer : List ℕ → Bool → List ℕ → PartAnswer
-record_answer gs d f = part_told (record_found gs d f)
+record_answer gs d f = told_of_part (found_record gs d f)
 
 unfoldable pub stretch_answer : List ℕ → Bool → List ℕ → ℕ → PartAnswer
-stretch_answer gs d f g = part_told (stretch_found gs d f g)
+stretch_answer gs d f g = told_of_part (found_stretch gs d f g)
 
 -- month, day, year, hour, minute, second; zeros where it is refused
 abbrev pub no_stamp : Stamp
 no_stamp = record { month = 0; day = 0; year = 0; hour = 0; minute = 0; second = 0 }
 
-abbrev pub card_and_stamp : Card → Stamp → StampAnswer
-card_and_stamp c s = record { number = c.number; carried = c.carried; stamp = s }
+abbrev pub stamp_told : Card → Stamp → StampAnswer
+stamp_told c s = record { number = c.number; carried = c.carried; stamp = s }
 
-abbrev pub stamp_told : Result Stamp Refusal → StampAnswer
-stamp_told (Ok s) = card_and_stamp done_card s
-stamp_told (Err refusal) = card_and_stamp (card_of refusal) no_stamp
+abbrev pub told_of_stamp : Result Stamp Refusal → StampAnswer
+told_of_stamp (Ok s) = stamp_told done_card s
+told_of_stamp (Err refusal) = stamp_told (card_of refusal) no_stamp
 
 unfoldable pub stamp_answer : List ℕ → Bool → List ℕ → StampAnswer
-stamp_answer gs d f = stamp_told (stamp_found gs d f)
+stamp_answer gs d f = told_of_stamp (found_stamp gs d f)
 
 -- a whole number as 32 bits, in two's complement
 abbrev pub bits32 : ℤ → ℕ

@@ -12,7 +12,7 @@ use Rattle.records.specs.declared.stamp.Stamp.{Stamp}
 use Rattle.records.specs.Record.{record_of}
 use Rattle.records.specs.Value.{PointValue, flag, int16, int32, float, text, signed, value_in_table}
 use Rattle.reader.specs.declared.answers.PointAnswer.{PointAnswer}
-use Rattle.reader.specs.Answers.{part, part_told, stamp_told, point_value, record_answer, stamp_answer, point_answer}
+use Rattle.reader.specs.Answers.{part, told_of_part, told_of_stamp, point_value, record_answer, stamp_answer, point_answer}
 
 -- what a driver makes of the numbers of an answer that is done, as windrow_reader.h says; f is the frame, which has the texts
 abbrev pub told_by : List ℕ → PointAnswer → PointValue
@@ -38,9 +38,9 @@ record_reply unit d s t gs = read_reply unit (record_of d s t gs)
 
 pub record GetsBack (unit size : ℕ) (d : Bool) (s : Stamp) (t gs : List ℕ) : Type 0 where
   -- the record is the part that starts at byte 3
-  pub whole : record_answer gs d (record_reply unit d s t gs) ≡ part_told (Ok (part 3 size))
+  pub whole : record_answer gs d (record_reply unit d s t gs) ≡ told_of_part (Ok (part 3 size))
   -- the stamp comes back
-  pub stamp : stamp_answer gs d (record_reply unit d s t gs) ≡ stamp_told (Ok s)
+  pub stamp : stamp_answer gs d (record_reply unit d s t gs) ≡ told_of_stamp (Ok s)
   -- at every place and point the answer is done, its kind is the row's, and its numbers tell the value that the point was captured with, of
   -- a text the cleaned one
   pub point : (g e : ℕ) (r : Row) → 1 ≤ g → g ≤ 16 → group_at gs (g - 1) ≡ Points r → 1 ≤ e → e ≤ count_at gs (g - 1) →

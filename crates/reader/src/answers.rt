@@ -53,9 +53,9 @@ pub struct PointAnswer {
 
 impl From<Result<Part, Refusal>> for PartAnswer {
     ghost use Rattle.std.specs.Prelude.{◌≡◌};
-    ghost use Rattle.reader.specs.Answers.{part_told};
+    ghost use Rattle.reader.specs.Answers.{told_of_part};
 
-    ghost from_gives = { λ found answer. answer ≡ part_told found };
+    ghost from_gives = { λ found answer. answer ≡ told_of_part found };
 
     fn from(found: Result<Part, Refusal>) -> PartAnswer {
         match found {
@@ -77,9 +77,9 @@ impl From<Result<Part, Refusal>> for PartAnswer {
 
 impl From<Result<Stamp, Refusal>> for StampAnswer {
     ghost use Rattle.std.specs.Prelude.{◌≡◌};
-    ghost use Rattle.reader.specs.Answers.{stamp_told};
+    ghost use Rattle.reader.specs.Answers.{told_of_stamp};
 
-    ghost from_gives = { λ read answer. answer ≡ stamp_told read };
+    ghost from_gives = { λ read answer. answer ≡ told_of_stamp read };
 
     fn from(read: Result<Stamp, Refusal>) -> StampAnswer {
         match read {

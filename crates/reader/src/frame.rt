@@ -2,7 +2,7 @@
 ghost use Rattle.std.specs.Prelude.{◌≡◌, true, ◌+◌, ◌≤◌, length, IfOk};
 ghost use Rattle.basics.specs.Lists.{all_zero};
 ghost use Rattle.reader.specs.Frame.{is_reply, record_part, record_checked, reply_checked, frame_checked, Passed};
-ghost use Rattle.reader.specs.Answers.{record_found, stamp_found};
+ghost use Rattle.reader.specs.Answers.{found_record, found_stamp};
 
 use crate::answers::Part;
 use basics::card::Refusal;
@@ -84,9 +84,9 @@ pub fn check(groups: &[u16], day_first: bool, frame: &[u8]) -> Result<usize, Ref
 }
 
 // The record: its place and length in the frame.
-#[tactic(auto, unfolding(crate::specs::Answers::record_found))]
+#[tactic(auto, unfolding(crate::specs::Answers::found_record))]
 pub fn find_record(groups: &[u16], day_first: bool, frame: &[u8]) -> Result<Part, Refusal>
-    ensures { result ≡ record_found groups.now day_first frame.now }
+    ensures { result ≡ found_record groups.now day_first frame.now }
 {
     let size = check(groups, day_first, frame)?;
     Ok(Part {
@@ -96,9 +96,9 @@ pub fn find_record(groups: &[u16], day_first: bool, frame: &[u8]) -> Result<Part
 }
 
 // The record's stamp: month, day, year, hour, minute, second, whatever the date order.
-#[tactic(auto, unfolding(crate::specs::Answers::stamp_found))]
+#[tactic(auto, unfolding(crate::specs::Answers::found_stamp))]
 pub fn read_stamp(groups: &[u16], day_first: bool, frame: &[u8]) -> Result<Stamp, Refusal>
-    ensures { result ≡ stamp_found groups.now day_first frame.now }
+    ensures { result ≡ found_stamp groups.now day_first frame.now }
 {
     let size = check(groups, day_first, frame)?;
     Ok(Stamp::from_bytes(record_of(frame, size), day_first))

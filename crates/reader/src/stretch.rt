@@ -1,7 +1,7 @@
 // The stretch of a place. Places count from 1, unused ones too.
 ghost use Rattle.std.specs.Prelude.{◌≡◌, IfOk};
 ghost use Rattle.reader.specs.Stretch.{FoundStretch, IsLent};
-ghost use Rattle.reader.specs.Answers.{stretch_found};
+ghost use Rattle.reader.specs.Answers.{found_stretch};
 
 use crate::answers::Part;
 use crate::frame::{RECORD_AT, check, record_of};
@@ -51,9 +51,9 @@ pub fn stretch_of<'a>(
 }
 
 // The stretch of place g, counted from 1: its place and length in the frame.
-#[tactic(auto, unfolding(crate::specs::Answers::stretch_found))]
+#[tactic(auto, unfolding(crate::specs::Answers::found_stretch))]
 pub fn find_stretch(groups: &[u16], day_first: bool, frame: &[u8], g: u32) -> Result<Part, Refusal>
-    ensures { result ≡ stretch_found groups.now day_first frame.now g }
+    ensures { result ≡ found_stretch groups.now day_first frame.now g }
 {
     let stretch = stretch_of(groups, day_first, frame, g)?;
     Ok(Part {
