@@ -1,4 +1,4 @@
-"""Clean text, document 02, L5: what is captured and polled live is clean; the trace and what was filed before keep their bytes."""
+"""Clean text: what is captured and polled live is clean; the trace and what was filed before keep their bytes."""
 import random
 
 import stores

@@ -70,7 +70,7 @@ class Compare(CompareCase):
 
 
 class CompareOrder(CompareCase):
-    """Document 02, L4, by alarms that were not read out of a gateway but worked out by hand."""
+    """Cleared before raised, by alarms that were not read out of a gateway but worked out by hand."""
 
     def setUp(self):
         super().setUp()
@@ -211,7 +211,7 @@ class Page(RecordsCase):
         return section and re.findall("<tr><td>(.*)</td><td>(.*)</td><td>(.*)</td><td>(?:<b>)?([a-z]+)(?:</b>)?</td></tr>", section[1])
 
     def test_scans_that_cleared_and_raised(self):
-        """Each as it lies in the file, be it L4's order or another, with the alarm's name if it has one."""
+        """Each as it lies in the file, cleared before raised or in another order, with the alarm's name if it has one."""
         self.assertEqual(self.order(("10:00:00", "1812", 0, 0), ("10:00:00", "1811", 0, 1),
                                     ("11:00:00", "1807", 2, 1),
                                     ("12:00:00", "1805", 0, 1), ("12:00:00", "1805", 1, 1), ("12:00:00", "1807", 2, 0),

@@ -1,4 +1,4 @@
-"""Alarm depth by firmware, document 02, L8: 150 alarm records with firmware 73, 500 with 74, and 74 where nothing is said."""
+"""Alarm depth by firmware: 150 alarm records with firmware 73, 500 with 74, and 74 where nothing is said."""
 import cleared_first
 import stores
 from frames import exception, reply, request

@@ -85,7 +85,7 @@ class Requests(FrameCase):
 
 
 class Answers(FrameCase):
-    """What a gateway answers to a request, by document 01; without settings only what all gateways answer alike."""
+    """What a gateway answers to a request, worked out by hand; without settings only what all gateways answer alike."""
 
     ANSWERS = ((4, 721, 1, "exception 1, illegal function"), (3, 712, 1, "exception 2, illegal data address"),
                (6, 3701, 1, "exception 2, illegal data address"), (3, 3701, 0, "exception 3, illegal data value"),

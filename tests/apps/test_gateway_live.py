@@ -115,7 +115,7 @@ class OfAStore(LiveCase):
 
 
 class Exceptions(LiveCase):
-    """In document 02's order, L3."""
+    """In the order of the checks: function, start address, quantity 0 or data over 250 bytes, past the row."""
 
     # function, address, quantity, code
     CASES = ((2, 1801, 1, 1), (4, 3001, 1, 1), (5, 1801, 1, 1), (16, 3001, 1, 1),

@@ -258,7 +258,7 @@ class OldRecords(RecordsCase):
 
 
 class OldOrder(RecordsCase):
-    """A store with alarms as gateways before 2.1 filed them, by point: they lie as they were, and new ones by L4 behind them."""
+    """A store with alarms as gateways before 2.1 filed them, by point: they lie as they were, and new ones, cleared first, behind them."""
 
     def test_read(self):
         self.write("s", cleared_first.SETTINGS)

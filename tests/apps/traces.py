@@ -1,4 +1,4 @@
-"""Live tables and traces: document 01's table of kinds, written down again."""
+"""Live tables and traces: the table of kinds, written down again."""
 import struct
 
 # kind: first point, bytes a point, from byte
@@ -7,10 +7,10 @@ TABLE_BYTES = 1424
 RECORD_BYTES = 1430
 TEXT_ROW_BYTES = 256  # of both: 32 texts of 8, and 16 of 16
 
-# Document 02, L5: each byte of a text as it is captured, and polled live.
+# Clean text: each byte of a text as it is captured, and polled live.
 CLEAN = b"\0" + b"?" * 31 + bytes(range(0x20, 0x7F)) + b"?" * 129
 
-# Document 02, L3: the function by which a row is polled, its first and last point, the most points in one poll.
+# Live polls: the function by which a row is polled, its first and last point, the most points in one poll.
 POLLED = [(1, 1801, 1928, 128), (3, 3001, 3064, 64), (3, 4001, 4032, 31), (3, 5101, 5164, 62), (3, 7101, 7228, 62),
           (3, 14001, 14016, 15)]
 

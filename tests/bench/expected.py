@@ -1,4 +1,4 @@
-"""What crates/record_speed must write for its case 'f', worked out from document 01 apart from it:
+"""What crates/record_speed must write for its case 'f', worked out by the rules of records apart from it:
 
     python3 tests/bench/expected.py > crates/record_speed/stdout
 

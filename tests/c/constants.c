@@ -1,6 +1,6 @@
 /*
  * Every constant of the headers, as lines of its name and value; the card's words; and the rows of the live table as the lookup
- * gives them. The model writes the same lines from document 01 (tests/model/src/bin/constants.rs); tests/run compares the two and
+ * gives them. The model writes the same lines by itself (tests/model/src/bin/constants.rs); tests/run compares the two and
  * sees that no constant of include/ is left out here.
  */
 #include <assert.h>

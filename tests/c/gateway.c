@@ -1,9 +1,8 @@
 /*
  * A gateway's firmware in C: makes a gateway, defines a file, starts it, sets a trigger and an alarm slot, scans, polls, hands
  * the replies to the reading end, and is refused what the service card refuses; asserts the header's layout. Offsets and sizes
- * are worked out by hand from C's rules for x86-64, and the expected lines are written from document 01, those of live points, of
- * the order of alarms, of clean text and of firmware 73 from document 02, L3 to L5 and L8; CRCs, those of the requests below too,
- * were worked out by the bit rule in Python. Both headers and both libraries serve one program.
+ * are worked out by hand from C's rules for x86-64, and the expected lines are written by hand from the gateway's; CRCs, those of
+ * the requests below too, were worked out by the bit rule in Python. Both headers and both libraries serve one program.
  */
 #include <assert.h>
 #include <stdio.h>
@@ -594,7 +593,7 @@ static void show_alarms(unsigned first, unsigned last)
     }
 }
 
-/* What falls is logged before what rises, each by point and then slot (document 02, L4); here the first such scan goes round. */
+/* What falls is logged before what rises, each by point and then slot; here the first such scan goes round. */
 static void cleared_before_raised(void)
 {
     struct windrow_state s = with_slots();
@@ -679,8 +678,8 @@ static struct windrow_state poll_live_texts(struct windrow_state s)
 }
 
 /*
- * What is captured and what is polled live is clean, and the table keeps its bytes (document 02, L5). A record that lies in the
- * archive as a gateway before 2.2 has filed it is polled and read as it is.
+ * What is captured and what is polled live is clean, and the table keeps its bytes. A record that lies in the archive as a gateway
+ * before 2.2 has filed it is polled and read as it is.
  */
 static void clean_text(void)
 {

@@ -1,8 +1,8 @@
 /*
  * The accessors of the live table: puts a value of its own into every point, gets each back, and writes the table as lines of 16
- * bytes. The model writes what the table must be by document 01 (tests/model/src/bin/table.rs), from the same values. Then what
+ * bytes. The model writes what the table must be by its own rows (tests/model/src/bin/table.rs), from the same values. Then what
  * must change nothing: a put to a point of another kind or to no point, a text that is too long; and a flag's neighbours stay. At
- * last clean text, document 02, L5: what each byte is captured as, and that the table keeps them all.
+ * last clean text: what each byte is captured as, and that the table keeps them all.
  */
 #include <inttypes.h>
 #include <stdio.h>
@@ -133,7 +133,7 @@ static void write_table(void)
         printf("%02x%s", table[i], i % 16 == 15 ? "\n" : "");
 }
 
-/* Whether a point is in document 01's row from first to last. */
+/* Whether a point is in the row from first to last. */
 static bool is_in(uint32_t point, uint32_t first, uint32_t last)
 {
     return first <= point && point <= last;

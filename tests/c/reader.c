@@ -1,7 +1,7 @@
 /*
  * A site driver in C: decodes the Omni bulletin's example (floats 7101-7103 and counters 5101-5103, 29 August 2007 11:36:52),
  * the last days of February, and texts as gateways before 2.2 captured them; asserts the header's layout. The replies are written
- * out by hand from document 01; their CRCs were worked out by the bit rule in Python.
+ * out by hand; their CRCs were worked out by the bit rule in Python.
  */
 #include <assert.h>
 #include <stdio.h>
@@ -23,12 +23,12 @@ static const uint8_t reply[] = {
     0x7F, 0xFF, 0xFF, 0xFF,                         /* 2147483647 */
     0xD1, 0x5C};                                   /* CRC, low byte first */
 
-/* Bare stamps at 11:36:52, month first: 29 February 2024, and the 30th, which does not exist (document 02, L1). */
+/* Bare stamps at 11:36:52, month first: 29 February 2024, and the 30th, which does not exist. */
 static const uint16_t bare_stamp[GROUP_NUMBERS] = {0};
 static const uint8_t leap_day[] = {0x01, 0x03, 0x06, 0x02, 0x1D, 0x18, 0x0B, 0x24, 0x34, 0xA1, 0x20};
 static const uint8_t no_such_day[] = {0x01, 0x03, 0x06, 0x02, 0x1E, 0x18, 0x0B, 0x24, 0x34, 0xE5, 0x20};
 
-/* A text of 8 and one of 16 with bytes that nothing captures since document 02, L5. What a record has is read as it is. */
+/* A text of 8 and one of 16 with bytes that nothing captures since texts are cleaned. What a record has is read as it is. */
 static const uint16_t texts[GROUP_NUMBERS] = {4001, 1, 14001, 1};
 static const uint8_t old_texts[] = {
     0x01, 0x03, 0x1E, 0x08, 0x1D, 0x07, 0x0B, 0x24, 0x34,

@@ -2,8 +2,7 @@
  * The inline functions of the headers, which stand on the proved ones. Every call of the gateway is made both ways, by pointer
  * and by value, each on a state and an archive of its own: number, state, archive and what else is answered must be the same,
  * done and refused. A state is stored and taken back, also as one of format 1. Requests are published ones; alarm records are
- * written by hand from document 01. The expected lines were written from document 01, those of live points and of firmware 73 from
- * document 02, L3 and L8, and CRCs worked out by the bit rule in Python.
+ * written by hand. The expected lines were written by hand too, and CRCs worked out by the bit rule in Python.
  */
 #include <assert.h>
 #include <stdio.h>

@@ -103,7 +103,7 @@ def no_live(checks, client):
 
 
 def exceptions(checks, client, files):
-    """By name. Where several could be answered, the order is document 01's."""
+    """By name. Where several could be answered, the order is: function, length, start address, then the row's own checks."""
     functions = client.other_functions
     checks.same(f"another function ({', '.join(functions)}) is an illegal function", [client.other(f) for f in functions],
                 [FUNCTION] * len(functions))
@@ -173,7 +173,7 @@ def chances(checks, client, files):
 
 
 def older_firmware(checks, client, files):
-    """A gateway of firmware 73, on which drivers that were made for it find the end where they expect it (document 02, L8)."""
+    """A gateway of firmware 73, on which drivers that were made for it find the end where they expect it."""
     checks.same("firmware 73: 150 alarm records, which have gone round", client.read(3731, 3), numbers(150, 6, 0))
     seen, wanted = [], []
     for k in (1, 6, 7, 149, 150):

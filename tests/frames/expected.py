@@ -3,7 +3,8 @@
     python3 tests/frames/expected.py > crates/frames/stdout
 
 One line a frame: its bytes, the CRC of what is before its last two, whether it checks, and how many of its damaged
-copies are refused. The CRC is by the bit rule of document 01, "Frames".
+copies are refused. The CRC is by the bit rule: it starts at FFFF hex; for each byte, exclusive-or it in, then eight
+times shift right and, if the bit lost was 1, exclusive-or A001 hex.
 """
 
 SERIAL_LINE = "MODBUS over Serial Line V1.02, 6.2.2"

@@ -1,4 +1,4 @@
--- The service card: the numbers in the paper's order, 0 for done, and what an answer is on the card.
+-- The service card: its numbers from 1 to 16, 0 for done, and what an answer is on the card.
 use Rattle.std.specs.Prelude.{cond, ℕ, eqb, Result, Ok, Err}
 use Rattle.basics.specs.declared.card.Refusal.{Refusal}
 use Rattle.basics.specs.declared.card.Refusal.TheVariants.{Memory, Foreign, Table, Clock, File, Locked, Group, Long, Trigger, Running, Room, Alarm, Reply, Garbled, Empty, Beyond}

@@ -1,4 +1,4 @@
--- Document 01, "Marked cases and known blunders": the marked cases, one list, and behind them cases of document 02, L1, L5 and L8.
+-- The marked cases, inputs with what the rules give for them, as one list, with cases of the calendar, of clean text and of both firmwares.
 -- proofs/Check.antt computes them all at once.
 use Rattle.std.specs.Prelude.{Option, Some, None, List, [], ◌∷◌, ◌++◌, Bool, true, false, ◌&&◌, ℕ, zero, suc, ◌+◌, ◌-◌, ℤ, pos, negsuc, length, get_or, take, replicate}
 use Rattle.basics.specs.Lists.{tabulate, same}
@@ -22,7 +22,7 @@ use Rattle.gateway.specs.Calls.{fresh_answer, unlock_answer, lock_answer, trigge
 use Rattle.gateway.specs.Scan.{scan_answer, scan_memory}
 use Rattle.gateway.specs.Poll.{poll_buffer}
 
--- what the definitions give, and what the paper says
+-- what the definitions give, and what the rules say
 pub record Case : Type 0 where
   pub given : List ℕ
   pub stated : List ℕ
@@ -116,7 +116,7 @@ abbrev numbered : ℕ → List (List ℕ)
 numbered zero = []
 numbered (suc c) = (suc c ∷ []) ∷ numbered c
 
--- pointer and records of an empty file of n such records after c captures, one by one; and by demand 3's formulas
+-- pointer and records of an empty file of n such records after c captures, one by one; and by the formulas for a list of captures
 abbrev captures : ℕ → ℕ → List ℕ
 captures n c = let after = captured_all 0 1 n (ring 0 (replicate n 0)) (numbered c) in after.pointer ∷ after.memory
 
@@ -184,7 +184,7 @@ text_told frame =
     let told = point_answer (point_value (groups (4001 ∷ 1 ∷ [])) false frame 1 1) in
     told.number ∷ told.kind ∷ told.place ∷ told.length ∷ []
 
--- a record as it was captured before L5, 57 1F 20 7E 7F 80 00 FF hex at 4001, and the reply that has it
+-- a record as it was captured when texts were not cleaned yet, 57 1F 20 7E 7F 80 00 FF hex at 4001, and the reply that has it
 abbrev old_record : List ℕ
 old_record = 0x08 ∷ 0x1D ∷ 0x07 ∷ 0x0B ∷ 0x24 ∷ 0x34 ∷ 0x57 ∷ 0x1F ∷ 0x20 ∷ 0x7E ∷ 0x7F ∷ 0x80 ∷ 0x00 ∷ 0xFF ∷ []
 
@@ -194,10 +194,10 @@ old_reply = 0x01 ∷ 0x03 ∷ 0x0E ∷ 0x08 ∷ 0x1D ∷ 0x07 ∷ 0x0B ∷ 0x24 
 -- ---- the cases
 unfoldable pub marked : List Case
 marked =
-    -- 29 August 2007 11:36:52: 08 1D 07 0B 24 34 hex; day first: 1D 08 07 0B 24 34 (002)
+    -- 29 August 2007 11:36:52: 08 1D 07 0B 24 34 hex; day first: 1D 08 07 0B 24 34 (the Omni bulletin's)
     stamp_bytes false august gives (0x08 ∷ 0x1D ∷ 0x07 ∷ 0x0B ∷ 0x24 ∷ 0x34 ∷ [])
     ∷ stamp_bytes true august gives (0x1D ∷ 0x08 ∷ 0x07 ∷ 0x0B ∷ 0x24 ∷ 0x34 ∷ [])
-    -- Groups (7101,3), (5101,3): 30 bytes (002's example)
+    -- Groups (7101,3), (5101,3): 30 bytes (the Omni bulletin's example)
     ∷ bytes (7101 ∷ 3 ∷ 5101 ∷ 3 ∷ []) gives (30 ∷ [])
     ∷ card_shown (7101 ∷ 3 ∷ 5101 ∷ 3 ∷ []) gives (done_no ∷ 0 ∷ [])
     -- (7101,61): 250, taken; with (3001,1) besides, 252: 8
@@ -213,7 +213,7 @@ marked =
     -- Value -5 at 3001: FF FB hex
     ∷ value_in (row_of 3001) (table_with 16 (0xFF ∷ 0xFB ∷ [])) 3001 gives shown_number (negsuc 4)
     ∷ group_bytes (table_with 16 (0xFF ∷ 0xFB ∷ [])) 3001 1 gives (0xFF ∷ 0xFB ∷ [])
-    -- Memory 11,006: one file of one bare stamp starts; 11,005: 11 (for firmware 74: L8)
+    -- Memory 11,006: one file of one bare stamp starts; 11,005: 11 (for firmware 74)
     ∷ one_bare_stamp 74 11006 gives (0 ∷ [])
     ∷ one_bare_stamp 74 11005 gives (11 ∷ [])
     -- n = 4, c = 5: pointer 1, record 1 is capture 5, record 2 capture 2. c = 4: pointer 4
@@ -228,7 +228,8 @@ marked =
     ∷ two_scans flag_on flag_off gives (0 ∷ 0 ∷ 0 ∷ 0 ∷ 0 ∷ 0 ∷ 0 ∷ 0 ∷ 0 ∷ [])
     ∷ two_scans flag_on flag_on gives (0 ∷ 0 ∷ 0 ∷ 0 ∷ 0 ∷ 0 ∷ 0 ∷ 0 ∷ 0 ∷ [])
     ∷ two_scans flag_off flag_on gives (0 ∷ 0 ∷ 1 ∷ 0x08 ∷ 0x1D ∷ 0x07 ∷ 0x0B ∷ 0x24 ∷ 0x34 ∷ [])
-    -- L1: 29 February 2024 and 2000 are taken, 2023 is refused; 30 February and 31 April are refused, 31 December is taken
+    -- a day must exist in its month: 29 February 2024 and 2000 are taken, 2023 is refused; 30 February and 31 April are refused,
+    -- 31 December is taken
     ∷ dated 29 2 24 gives taken
     ∷ dated 29 2 23 gives impossible
     ∷ dated 29 2 0 gives taken
@@ -237,7 +238,7 @@ marked =
     ∷ dated 31 12 24 gives taken
     -- and a record of zeros stays Empty
     ∷ (read_as false (replicate 6 0) ∷ []) gives (empty_no ∷ [])
-    -- L5: all 256 bytes in each text row, and in the rows of numbers, where they stay
+    -- clean text: all 256 bytes in each text row, and in the rows of numbers, where they stay
     ∷ group_bytes (table_with 144 every_byte) 4001 32 gives every_clean
     ∷ group_bytes (table_with 1168 every_byte) 14001 16 gives every_clean
     ∷ group_bytes (table_with 16 (bytes_from 0x00 128)) 3001 64 gives bytes_from 0x00 128
@@ -254,7 +255,7 @@ marked =
     -- what lies in archive memory is served as it is, and read as it stands
     ∷ replied old_record gives old_reply
     ∷ text_told old_reply gives (done_no ∷ 5 ∷ 9 ∷ 8 ∷ [])
-    -- L8: memory 3,306 and 3,305 for firmware 73
+    -- memory 3,306 and 3,305 for firmware 73, whose alarm file has 150 records
     ∷ one_bare_stamp 73 3306 gives (0 ∷ [])
     ∷ one_bare_stamp 73 3305 gives (11 ∷ [])
     -- Fresh: firmware, then memory, then unit; 329 is 73 + 256, 65,609 is 73 + 65,536

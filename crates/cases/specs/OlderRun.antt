@@ -1,5 +1,5 @@
--- A run of the plain machine with firmware 73, whose alarm file has 150 records (document 02, L8): each call beside what it is answered,
--- worked out by hand from the papers, with CRCs from another computation. proofs/Ran.antt computes it. There is room for file 1 with one
+-- A run of the plain machine with firmware 73, whose alarm file has 150 records: each call beside what it is answered,
+-- worked out by hand from the rules, with CRCs from another computation. proofs/Ran.antt computes it. There is room for file 1 with one
 -- bare stamp beside the alarm file; slot k is on point 1800 + k and logs any change, so that each scan but the first logs
 -- 32 records.
 use Rattle.std.specs.Prelude.{List, [], ◌∷◌, ◌++◌, false, ℕ, zero, suc, ◌+◌, replicate}

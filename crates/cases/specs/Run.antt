@@ -1,7 +1,7 @@
--- One run of the plain machine of document 01, with document 02, L3 to L5 and L8: each call beside what it is answered, worked out by hand
--- from the papers, with CRCs from another computation. proofs/Ran.antt computes it. File 1 has two records of a stamp and point 3001, file
--- 2 one of a text of each kind with 3001 between them; both have trigger 1801, and file 1 later 1802. Slots 1 and 3 are on point 1803, later
--- slot 5 on 1805, slots 2 and 4 on 1806.
+-- One run of the plain machine, with live polls, alarms cleared before raised, and clean text: each call beside what it is answered, worked
+-- out by hand from the rules, with CRCs from another computation. proofs/Ran.antt computes it. File 1 has two records of a stamp and point
+-- 3001, file 2 one of a text of each kind with 3001 between them; both have trigger 1801, and file 1 later 1802. Slots 1 and 3 are on point
+-- 1803, later slot 5 on 1805, slots 2 and 4 on 1806.
 use Rattle.std.specs.Prelude.{List, [], ◌∷◌, ◌++◌, false, ℕ, ◌-◌, length, replicate}
 use Rattle.basics.specs.Card.{card, done_card, done_no, table_no, clock_no, file_no, locked_no, group_no, long_no, trigger_no, running_no, room_no, alarm_no, reply_no}
 use Rattle.records.specs.declared.stamp.Stamp.{Stamp}
@@ -29,7 +29,8 @@ abbrev pub at : ℕ → Stamp
 at minute = record { month = 8; day = 29; year = 7; hour = 11; minute = minute; second = 52 }
 
 -- a live table of zeros, but for 1801 to 1808 as one byte, the two bytes of 3001, 5101 = 7, 5102 = 258, 7101 = 1.0, and two texts as an old
--- handheld leaves them: at 4001 bytes next to the edges of L5, at 14001 "S", 9A hex, "D YARD", a line's end, two zeros, 01 and 7F hex
+-- handheld leaves them: at 4001 bytes next to the edges of clean text, at 14001 "S", 9A hex, "D YARD", a line's end, two zeros, 01 and
+-- 7F hex
 abbrev table : ℕ → ℕ → ℕ → List ℕ
 table flags high low =
     flags ∷ replicate 15 0
@@ -40,8 +41,8 @@ table flags high low =
     ++ (0x53 ∷ 0x9A ∷ 0x44 ∷ 0x20 ∷ 0x59 ∷ 0x41 ∷ 0x52 ∷ 0x44 ∷ 0x0D ∷ 0x0A ∷ 0x00 ∷ 0x00 ∷ 0x01 ∷ 0x7F ∷ 0x00 ∷ 0x00 ∷ replicate 240 0)))))
 
 -- the live table that polls are lent: zeros, but for 1801, 1803, 1806, 1808, 1810 and 1811, 3001 = -5, 3064 = 300, 5101 = 7, 5102 = 258,
--- 7228 = 1.0, and texts with bytes that L5 replaces: at 4002 the first one too, at 4032 some behind a 00, at 14016 "NORTH", a tab, "YARD" and
--- what lay behind it
+-- 7228 = 1.0, and texts with bytes that cleaning replaces: at 4002 the first one too, at 4032 some behind a 00, at 14016 "NORTH", a tab,
+-- "YARD" and what lay behind it
 abbrev live : List ℕ
 live =
     0xA5 ∷ 0x06 ∷ replicate 14 0
@@ -103,7 +104,7 @@ run =
     ∷ scan (table 0x01 0x00 0x00) (at 35) tells done
     ∷ scan (table 0x00 0x00 0x00) (at 35) tells done
     ∷ scan (table 0x01 0xFF 0xFB) (at 36) tells done
-    -- record 1 of file 1 is capture 1, and of file 2 two texts, cleaned byte by byte (document 02, L5), and -5 as it
+    -- record 1 of file 1 is capture 1, and of file 2 two texts, cleaned byte by byte, and -5 as it
     -- stands; the stamp alone by 771
     ∷ asks (0x11 ∷ 0x03 ∷ 0x02 ∷ 0xD1 ∷ 0x00 ∷ 0x01 ∷ 0xD7 ∷ 0x1B ∷ [])
     tells sends (0x11 ∷ 0x03 ∷ 0x08 ∷ 0x08 ∷ 0x1D ∷ 0x07 ∷ 0x0B ∷ 0x24 ∷ 0x34 ∷ 0xFF ∷ 0xFB ∷ 0xE2 ∷ 0x8B ∷ [])
@@ -149,8 +150,9 @@ run =
     tells sends (0x11 ∷ 0x03 ∷ 0x16 ∷ 0x08 ∷ 0x1D ∷ 0x07 ∷ 0x0B ∷ 0x29 ∷ 0x34 ∷ 0x07 ∷ 0x0B ∷ 0x00 ∷ 0x00 ∷ 0x3F ∷ 0x80 ∷ 0x00 ∷ 0x00 ∷ 0x00 ∷ 0x00 ∷ 0x00 ∷ 0x07 ∷ 0x00 ∷ 0x00 ∷ 0x01 ∷ 0x02 ∷ 0xEF ∷ 0xE6 ∷ [])
     ∷ asks (0x11 ∷ 0x03 ∷ 0x0E ∷ 0x93 ∷ 0x00 ∷ 0x03 ∷ 0xF5 ∷ 0x9E ∷ [])
     tells sends (0x11 ∷ 0x03 ∷ 0x06 ∷ 0x01 ∷ 0xF4 ∷ 0x00 ∷ 0x03 ∷ 0x00 ∷ 0x00 ∷ 0xAC ∷ 0xB1 ∷ [])
-    -- document 02, L4: 1805 (slot 5) and 1806 (slots 2 and 4) rise, records 4 to 6; then both fall while 1803 (slots 1 and 3) rises. The falls
-    -- come first, by point and not by slot: 1805 is record 7, 1806 of slot 2 alone record 8, since slot 4 is of type 3; then 1803, 9 and 10
+    -- cleared before raised: 1805 (slot 5) and 1806 (slots 2 and 4) rise, records 4 to 6; then both fall while 1803 (slots 1 and 3) rises.
+    -- The falls come first, by point and not by slot: 1805 is record 7, 1806 of slot 2 alone record 8, since slot 4 is of type 3; then
+    -- 1803, 9 and 10
     ∷ alarm 5 1805 2 0 tells done
     ∷ alarm 4 1806 3 0 tells done
     ∷ alarm 2 1806 0 0 tells done

@@ -1,4 +1,4 @@
--- Demand 3's two formulas in its own words, as they hold of every file at the end of a list. Assumes nothing.
+-- The formulas for the pointer and for record k in plain arithmetic, as they hold of every file at the end of a list. Assumes nothing.
 --     points_to    the pointer is 0 if c = 0, otherwise 1 + (c - 1) mod n
 --     reads_as     record k reads as capture j, the greatest j from 1 to c with j - k divisible by n, or as zeros if there is none
 --     end_reads    what is compared after the list

@@ -1,7 +1,7 @@
--- Document 01, "The plain machine", with document 02, L1, L3 to L5 and L8: its state, and what each call does to it and is
--- answered. Nothing here knows of the gateway's state; of its crate only the rules of firmware are cited. Archive memory is no part of it:
--- View.antt works it out from the lists of captures, so that emptied lists are memory all zeros. Files are counted from 0, as in the
--- archive's Layout.antt; calls name files and slots from 1, as the paper does.
+-- The plain machine: its state, and what each call does to it and is answered. It says what the gateway shall do, with lists of captures in
+-- place of rings. Nothing here knows of the gateway's state; of its crate only the rules of firmware are cited. Archive memory is no part
+-- of it: View.antt works it out from the lists of captures, so that emptied lists are memory all zeros. Files are counted from 0, as in the
+-- archive's Layout.antt; calls name files and slots from 1.
 use Rattle.std.specs.Prelude.{Bool, true, false, cond, not, ◌&&◌, ◌||◌, List, [], ◌∷◌, ℕ, ◌-◌, eqb, ltb, length, take, replicate, set}
 use Rattle.basics.specs.Card.{Card, card, done_card, done_no, memory_no, foreign_no, table_no, clock_no, file_no, locked_no, trigger_no, running_no, room_no, alarm_no, reply_no}
 use Rattle.basics.specs.Lists.{pasted}
@@ -24,7 +24,7 @@ use Rattle.polls.specs.Lent.{least_buffer}
 use Rattle.state.specs.Firmware.{newer_firmware, good_firmware, alarm_depth}
 
 -- ---- State
--- date order, unit and archive length; the firmware (document 02, L8)
+-- date order, unit and archive length; the firmware, 73 or 74
 pub record Site : Type 0 where
   pub day_first : Bool
   pub unit : ℕ
@@ -102,7 +102,7 @@ draft_of m = layout_of m.settings.drafted (depth_of m.site)
 abbrev pub layout : Machine → Layout
 layout m = layout_of m.files.laid_out (depth_of m.site)
 
--- the pointer and record k follow demand 3's formula
+-- a file's pointer by the number of its captures, and record k by the list of them
 abbrev pub pointer_of : Layout → (ℕ → List (List ℕ)) → ℕ → ℕ
 pointer_of l lists f = pointer_after (limit_of l f) (length (lists f))
 
@@ -150,8 +150,8 @@ restarted m = record {
 }
 
 -- Scan: the first accepted scan only remembers its Booleans. A later one, if running, appends to each file with n > 0 whose trigger
--- went 0 to 1 a record of this scan's table and stamp, and slots log to the alarm file, in the order of document 02, L4 (the archive's
--- Captures.antt and Alarms.antt)
+-- went 0 to 1 a record of this scan's table and stamp, and slots log to the alarm file, cleared before raised (the archive's Captures.antt
+-- and Alarms.antt)
 abbrev pub lists_after : Machine → Seen → List ℕ → Stamp → ℕ → List (List ℕ)
 lists_after m nothing table stamp f = m.files.lists f
 lists_after m (remembered before) table stamp f =
@@ -202,16 +202,16 @@ does m (poll table frame buffer) = with_requested m (requested_after (view_of m 
 -- ---- the service card, judged by the machine's own state: the lowest number that applies, with what it carries, or done. Memory (1) and
 -- Foreign (2) apply to Fresh alone, as the machine keeps its own state and archive memory
 
--- Fresh's least archive length, by firmware: under 3,300 for 73 and under 11,000 for 74 is Memory, in the paper's own numbers (Runs.antt,
--- `FreshAnswers`, compares them with the gateway's)
+-- Fresh's least archive length, by firmware: under 3,300 for 73 and under 11,000 for 74 is Memory, in plain numbers (Runs.antt,
+-- `FreshAnswers`, compares them with the gateway's, which are worked out from the alarm file)
 abbrev pub least_archive : ℕ → ℕ
 least_archive firmware = cond (ltb firmware newer_firmware) 3300 11000
 
 abbrev pub most_archive : ℕ
 most_archive = 1048576
 
--- Fresh: firmware neither 73 nor 74, the one check before Memory (document 02, L8), though its number is the higher; archive length under
--- the least or over 1,048,576; unit not 1-247
+-- Fresh: firmware neither 73 nor 74, the one check before Memory, though its number is the higher; archive length under the least or over
+-- 1,048,576; unit not 1-247
 unfoldable pub fresh_card : ℕ → ℕ → ℕ → Card
 fresh_card unit firmware archive_length =
     cond (not (good_firmware firmware)) (card foreign_no 0)

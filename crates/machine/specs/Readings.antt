@@ -1,5 +1,6 @@
--- What is read of demand 3 at the end of a list of calls: its two formulas in its own words, the other things compared, the alarm file's
--- depth, and the reply to a poll of a whole record. M is the machine after the list; a file's captures are those since it was last emptied.
+-- What is read at the end of a list of calls: the formulas for the pointer and for record k in plain arithmetic, the other things compared,
+-- the alarm file's depth, and the reply to a poll of a whole record. M is the machine after the list; a file's captures are those since it
+-- was last emptied.
 use Rattle.std.specs.Prelude.{◌≡◌, List, [], ◌⊎◌, Bool, true, false, ℕ, ◌+◌, ◌-◌, ◌*◌, ◌%◌, ◌≤◌, ◌<◌, length, get_or, drop, replicate}
 use Rattle.basics.specs.Card.{done_no}
 use Rattle.basics.specs.Lists.{pasted, all_zero}
@@ -22,7 +23,7 @@ pub record PointsTo (n c pointer : ℕ) : Type 0 where
   pub some : 1 ≤ c → pointer ≡ 1 + (c - 1) % n
 
 -- ---- record k reads as capture j, the greatest j from 1 to c with j - k divisible by n, or as zeros if there is none
--- capture j of c, the oldest number 1, of a list that has the newest first; alarms of one scan are counted in the order of document 02, L4
+-- capture j of c, the oldest number 1, of a list that has the newest first; alarms of one scan are counted cleared before raised
 abbrev pub capture_number : List (List ℕ) → ℕ → List ℕ
 capture_number rs j = get_or rs (length rs - j) []
 
@@ -67,7 +68,7 @@ EndsAsRead =
     (day_first : Bool) (unit firmware : ℕ) (m₀ : List ℕ) (cs : List Call) (os : List Outcome) (s : State) (m : List ℕ) →
     Ran day_first unit firmware m₀ cs os s m → EndReads (after (fresh day_first unit firmware (length m₀)) cs) s m
 
--- ---- after any list the alarm file has as many records as the firmware that Fresh was given has (document 02, L8)
+-- ---- after any list the alarm file has as many records as the firmware that Fresh was given has, 150 with 73 and 500 with 74
 abbrev pub DepthKept : Type 0
 DepthKept =
     (day_first : Bool) (unit firmware : ℕ) (m₀ : List ℕ) (cs : List Call) (os : List Outcome) (s : State) (m : List ℕ) →
@@ -124,7 +125,6 @@ PastTheEnd =
     (buffer : List ℕ) (o : Outcome) → NumberPolled unit s m f k buffer o → o ≡ replied_with buffer (exception_reply unit 3 illegal_value)
 
 -- so that a driver made for the older firmware, 73, finds the end of the alarm file after any list: it reads record 150, and 151 is refused
--- (document 02, L8)
 pub record FindsTheEnd (unit : ℕ) (s : State) (m : List ℕ) : Type 0 where
   pub last : (buffer : List ℕ) (o : Outcome) → NumberPolled unit s m alarm_file 150 buffer o →
       o ≡ replied_with buffer (read_reply unit (record_bytes s m alarm_file 150))

@@ -14,7 +14,7 @@ abbrev pub seen_of : Seen → Gateway.Seen
 seen_of nothing = record { scanned = false; booleans = replicate boolean_bytes 0 }
 seen_of (remembered booleans) = record { scanned = true; booleans = booleans }
 
--- every file's pointer, by demand 3's formula
+-- every file's pointer, by the number of its captures
 unfoldable pub pointers_of : Layout → (ℕ → List (List ℕ)) → List ℕ
 pointers_of l lists = tabulate all_files (pointer_of l lists)
 
@@ -29,7 +29,7 @@ state_of m = record {
 }
 
 -- ---- archive memory
--- records 1 to k of a file of n records, by demand 3's formula
+-- records 1 to k of a file of n records, each the newest capture j with j - k divisible by n, or zeros
 unfoldable pub records_of : ℕ → ℕ → List (List ℕ) → ℕ → List ℕ
 records_of n size rs zero = []
 records_of n size rs (suc k) = records_of n size rs k ++ record_after n size rs (suc k)

@@ -13,7 +13,7 @@ newer_firmware = 74
 unfoldable pub good_firmware : ℕ → Bool
 good_firmware firmware = within older_firmware newer_firmware firmware
 
--- the bulletin (002): 150 alarm records below firmware .74, 500 from .74 on
+-- by the Omni bulletin: 150 alarm records below firmware .74, 500 from .74 on
 unfoldable pub alarm_depth : ℕ → ℕ
 alarm_depth firmware = cond (ltb firmware newer_firmware) 150 500
 

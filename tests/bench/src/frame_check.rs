@@ -1,4 +1,4 @@
-//! The frame check over 64 KiB of frames (document 02, L7): whether each ends in its CRC, by the library's and by two of the expert's,
+//! The frame check over 64 KiB of frames: whether each ends in its CRC, by the library's table of 256 steps and by two of the expert's,
 //! which go by such a table too. The three are timed in turn, run after run.
 
 use std::hint::black_box;

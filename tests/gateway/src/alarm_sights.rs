@@ -1,5 +1,5 @@
-//! What the alarm records of accepted scans were seen to be, by document 02, L4: those of falls and then those of rises. All is to be
-//! seen with either firmware, which decides where the file ends (L8).
+//! What the alarm records of accepted scans were seen to be: those of falls and then those of rises. All is to be seen with either
+//! firmware, which decides where the file ends.
 
 use model::layout::{alarm_records, FIRMWARES};
 use model::machine::SLOTS;

@@ -1,6 +1,6 @@
-//! Scans in turn that log alarms, by document 02, L4: every change of points at the edges of bytes and words, with slots arranged in
+//! Scans in turn that log alarms, cleared before raised: every change of points at the edges of bytes and words, with slots arranged in
 //! several ways; and every number of cleared and of raised ones, from every pointer near the end of the alarm file on. All of it is
-//! tried with either firmware, by which the file ends after 150 records or after 500 (L8).
+//! tried with either firmware, by which the file ends after 150 records or after 500.
 
 use gateway::ffi::Seen;
 use gateway::tables::Table;

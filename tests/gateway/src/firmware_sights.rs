@@ -1,5 +1,5 @@
-//! What calls on gateways of either firmware were seen to do, by document 02, L8, counted, so that a run shows that nothing which
-//! goes by the alarm file's depth was left out. What goes before, at Fresh, is in `fresh_sights`.
+//! What calls on gateways of either firmware were seen to do, counted, so that a run shows that nothing which goes by the alarm file's
+//! depth was left out. What goes before, at Fresh, is in `fresh_sights`.
 
 use std::ops::RangeInclusive;
 

@@ -1,5 +1,5 @@
-//! What Freshes were given and what they answered, by document 02, L8, counted, so that a run shows that each was refused by each
-//! cause that there is, and by each before the next: the firmware, then the memory, then the unit.
+//! What Freshes were given and what they answered, counted, so that a run shows that each was refused by each cause that there is, and
+//! by each before the next: the firmware, then the memory, then the unit.
 
 use model::card::{DONE, FOREIGN, MEMORY};
 use model::foreign::{firmware_is_in_use, unit_is_ours};

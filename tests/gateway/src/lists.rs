@@ -88,7 +88,7 @@ impl List {
         List::over(archive, state, Stood::AnyBytes)
     }
 
-    /// The same over records from before document 02, L5, which were captured of one scan.
+    /// The same over records from before texts were cleaned, which were captured of one scan.
     pub fn over_old_records(random: &mut Random, state: State, scan: Scan) -> List {
         let archive = old_records(random, &state, &scan.table, scan.stamp);
         List::over(archive, state, Stood::OldRecords(Rc::new(scan)))

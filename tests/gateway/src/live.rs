@@ -1,4 +1,4 @@
-//! Runs of live points that a poll asks for, by document 02, L3: 01 reads Booleans, 03 a run in any other row.
+//! Runs of live points that a poll asks for: 01 reads Booleans, 03 a run in any other row.
 
 use model::frames::{MOST_DATA, READ, READ_BOOLEANS};
 use model::points::{Kind, Row, ROWS};

@@ -8,7 +8,7 @@ use reader::random::Random;
 use crate::ffi::State;
 use crate::states::definitions_of;
 
-/// Records from before document 02, L5: each slot of files 1 to 10 has the one that was captured of this table and stamp. The alarm
+/// Records from before texts were cleaned: each slot of files 1 to 10 has the one that was captured of this table and stamp. The alarm
 /// file and what is behind it are random bytes.
 pub fn old_records(random: &mut Random, s: &State, table: &[u8], stamp: Stamp) -> Vec<u8> {
     let mut archive = random.bytes(s.site.archive_length as usize);

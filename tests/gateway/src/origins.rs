@@ -26,7 +26,7 @@ pub struct Scan {
 pub enum Stood {
     Zeros,
     AnyBytes,
-    /// In each slot of files 1 to 10 a record of this scan, from before document 02, L5.
+    /// In each slot of files 1 to 10 a record of this scan, from before texts were cleaned.
     OldRecords(Rc<Scan>),
 }
 
@@ -43,7 +43,7 @@ pub struct ReadBack {
     pub records: usize,
     pub stamps: usize,
     pub empty: usize,
-    /// Of the records, those from before document 02, L5.
+    /// Of the records, those from before texts were cleaned.
     pub old_records: usize,
     /// Of the records and stamps, those of 29 February.
     pub leap_days: usize,

@@ -10,7 +10,7 @@ use crate::poll_sights::{PollSight, Shown, EXCEPTIONS, REPLIES, UNANSWERED};
 use crate::refused_sights::{Refused, REFUSED};
 
 /// How often each is to be seen, how many replies each file is to give on each row, and how many records and stamps are to be
-/// decoded, and records from before document 02, L5, with their texts.
+/// decoded, and records from before texts were cleaned, with their texts.
 const OFTEN_ENOUGH: usize = 20;
 const REPLIES_A_FILE: usize = 20;
 const READ_BACK: usize = 5_000;
@@ -79,7 +79,7 @@ impl PollTally {
         seen.push(counted("polled records read back by the reading end", *records, READ_BACK));
         seen.push(counted("polled stamps read back by the reading end", *stamps, READ_BACK));
         seen.push(counted("polled records that the reading end called empty", *empty, OFTEN_ENOUGH));
-        seen.push(counted("polled records from before L5 read back by the reading end", *old_records, OLD_READ_BACK));
+        seen.push(counted("polled records from before clean text read back by the reading end", *old_records, OLD_READ_BACK));
         seen.push(counted("29 February polled and read back", *leap_days, OFTEN_ENOUGH));
         let Points { kinds, cleaned, not_cleaned } = points;
         seen.push(counted("text that was cleaned polled and read back", *cleaned as usize, READ_BACK));

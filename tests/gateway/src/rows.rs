@@ -1,4 +1,4 @@
-//! What a request asks for, by document 01's address table; the rows of the live table are in `live`.
+//! What a request asks for, by the address table; the rows of the live table are in `live`.
 
 use model::frames::number_at;
 use model::layout::{alarm_records, ALARM_FILE, USER_FILES};

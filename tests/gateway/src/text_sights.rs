@@ -1,5 +1,5 @@
-//! What texts accepted scans captured and polls read of the live table, by document 02, L5, counted, so that a run shows that
-//! nothing which the rule tells apart was left out, in either kind; and points of other kinds with bytes that a text would lose.
+//! What texts accepted scans captured and polls read of the live table, counted, so that a run shows that nothing which the rule of
+//! clean text tells apart was left out, in either kind; and points of other kinds with bytes that a text would lose.
 
 use model::points::ROWS;
 use model::record::captured_group;

@@ -1,6 +1,6 @@
-//! Texts in turn, by document 02, L5: every byte with every other one behind it, at every place of a text of either kind, and the
+//! Texts in turn, which are to be cleaned: every byte with every other one behind it, at every place of a text of either kind, and the
 //! same in points of the other kinds. Each is captured by a scan, polled live, polled out of the archive and read back. Beside it each
-//! lies in archive memory in a record from before L5, which is polled and read back as it stands.
+//! lies in archive memory in a record from before texts were cleaned, which is polled and read back as it stands.
 
 use gateway::ffi::{Seen, Slot, State};
 use gateway::live::{function_of, most_points};

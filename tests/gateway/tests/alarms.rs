@@ -1,5 +1,5 @@
-//! Document 02, L4: the alarm records of one scan on libgateway.a, those with new bit 0 first, with either firmware (L8). What is
-//! wanted is worked out by hand.
+//! The alarm records of one scan on libgateway.a, those with new bit 0 first, with either firmware. What is wanted is worked out by
+//! hand.
 
 use gateway::ffi::{self, Answer, State};
 use model::alarm_orders::{logged, numbered_table, transducer_of, Case, ABOUT_THE_END, CASES, EDGES_FALL_AND_RISE};

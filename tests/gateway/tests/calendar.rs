@@ -1,4 +1,4 @@
-//! Document 02, L1: every date that exists and those next to them, in both date orders, on the libraries and on the model: as the
+//! The calendar: every date that exists and those next to them, in both date orders, on the libraries and on the model: as the
 //! stamp of a scan, in an old record that is polled, and in a reply that is read.
 
 use std::collections::BTreeMap;

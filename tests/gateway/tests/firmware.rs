@@ -1,4 +1,4 @@
-//! Document 02, L8: alarm depth by firmware, on libgateway.a. What is wanted is worked out by hand.
+//! Alarm depth by firmware, on libgateway.a. What is wanted is worked out by hand.
 
 use gateway::ffi::{self, Answer, Site, State};
 use gateway::states::ZEROS;
@@ -251,8 +251,8 @@ fn read_back(gateway: &mut Gateway, depth: u16) -> Vec<u16> {
     backwards.map(|k| alarm_of(&gateway.ask(READ, 731, k)[3..])).collect()
 }
 
-/// The request's reason. A driver that was made for firmware 73 finds the newest 150 there, and where it reads past the end it is
-/// told so. With 74, as with every gateway before L8, what it takes for the alarm before 501 is one from long ago.
+/// Why the depth goes by the firmware. A driver that was made for firmware 73 finds the newest 150 there, and where it reads past the
+/// end it is told so. With 74, as with every gateway before 3.0, what it takes for the alarm before 501 is one from long ago.
 #[test]
 fn an_old_driver_finds_the_newest_150_with_firmware_73_only() {
     let mut old = Gateway::after_alarms(73, 503);

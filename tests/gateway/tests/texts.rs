@@ -1,4 +1,4 @@
-//! Document 02, L5: texts on libgateway.a, captured and polled live; old ones polled, and read by libreader.a, as they stand. What
+//! Clean text: texts on libgateway.a, captured and polled live; old ones polled, and read by libreader.a, as they stand. What
 //! is wanted is worked out by hand.
 
 use gateway::ffi::{self, State};
@@ -114,7 +114,7 @@ fn points_of_other_kinds_keep_every_byte() {
     }
 }
 
-/// Record 1 lies in archive memory since before L5. The reading end takes its texts where they are.
+/// Record 1 lies in archive memory since before texts were cleaned. The reading end takes its texts where they are.
 #[test]
 fn old_records_are_polled_and_read_as_they_stand() {
     let groups = [(4001, 8), (3001, 1), (14001, 8)];

@@ -1,6 +1,6 @@
-//! Document 02, L4: scans with the alarm records that they log, in order; and
-//! L8: where they go, by firmware. All of it is worked out by hand from the
-//! papers, for the model and the library.
+//! Scans with the alarm records that they log, in order, cleared before raised;
+//! and where they go, by firmware. All of it is worked out by hand from the
+//! rules, for the model and the library.
 
 use crate::layout::ALARM_RECORD_BYTES;
 use crate::points::{ROWS, TABLE_BYTES};

@@ -1,4 +1,4 @@
-//! Document 01, "Numbers on the service card".
+//! The service card: the numbers that calls answer, and their words.
 
 pub const DONE: u8 = 0;
 pub const MEMORY: u8 = 1;

@@ -1,4 +1,4 @@
-//! Document 01, "Frames": the CRC by the bit rule.
+//! The CRC of frames by the bit rule.
 
 /// Starts at FFFF hex; each byte is exclusive-ored in, then eight times a
 /// shift right and, if the bit lost was 1, exclusive-or A001 hex.

@@ -1,6 +1,5 @@
-//! Document 02, L8: what Fresh, a pending Start and the alarm file do by
-//! firmware. All of it is worked out by hand from the papers, for the model and
-//! the library.
+//! What Fresh, a pending Start and the alarm file do by firmware. All of it is
+//! worked out by hand from the rules, for the model and the library.
 
 use crate::record::{Stamp, AUGUST};
 

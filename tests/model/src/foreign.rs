@@ -1,5 +1,5 @@
-//! Document 01, "Numbers on the service card", row 2, and document 02, L8:
-//! whether a stored state is Foreign. Any content of the fields may be judged.
+//! Whether a stored state is Foreign (2). Any content of the fields may be
+//! judged.
 
 use crate::layout::{
     layout_bytes, most_records, Definition, Definitions, ALARM_FILE, FIRMWARES, USER_FILES,

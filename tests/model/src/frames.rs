@@ -1,10 +1,10 @@
-//! Document 01, "Frames": what requests, read replies and exceptions look
-//! like on the line. Numbers go high byte first, but for the CRC.
+//! What requests, read replies and exceptions look like on the line. Numbers
+//! go high byte first, but for the CRC.
 
 use crate::crc::with_crc;
 
-/// The functions that are known: 01 reads Booleans (document 02, L3), 03 all
-/// else that is read, 06 writes.
+/// The functions that are known: 01 reads live Booleans, 03 all else that is
+/// read, 06 writes.
 pub const READ_BOOLEANS: u8 = 1;
 pub const READ: u8 = 3;
 pub const WRITE: u8 = 6;

@@ -1,5 +1,5 @@
-//! Document 01, "The plain machine", its paragraph "Layout"; document 02, L8,
-//! for the alarm file's depth.
+//! Where the files lie: files 1 to 10 in order from byte 0, each n times its
+//! record size, then the alarm file, whose depth goes by the firmware.
 
 use crate::points::{record_size, GROUP_NUMBERS};
 
@@ -12,7 +12,7 @@ pub const ALARM_FILE: usize = 11;
 /// The size of an alarm record.
 pub const ALARM_RECORD_BYTES: usize = 22;
 
-/// The firmwares that are in use (document 02, L8).
+/// The firmwares that are in use.
 pub const FIRMWARE_73: u16 = 73;
 pub const FIRMWARE_74: u16 = 74;
 pub const FIRMWARES: [u16; 2] = [FIRMWARE_73, FIRMWARE_74];
@@ -84,7 +84,7 @@ mod tests {
     use crate::depths::DEPTHS;
     use crate::points::groups_from_first_place;
 
-    /// Document 02, L8. Files 1 to 10 have their own n with either firmware.
+    /// Files 1 to 10 have their own n with either firmware.
     #[test]
     fn the_alarm_file_alone_has_a_depth_by_firmware() {
         let mut files = [Definition::IDLE; USER_FILES];

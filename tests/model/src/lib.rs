@@ -1,9 +1,8 @@
-//! A plain Rust model of the Windrow gateway, written from document 01
-//! (`01-scope.md`), its source documents 000 and 002, and the requests of
-//! document 02 (`02-change-requests.md`) that have landed, alone.
+//! A plain Rust model of the Windrow gateway, written from the rules alone,
+//! apart from the library.
 //!
-//! It is meant to be read beside document 01 and to be compared with the
-//! gateway library. It favours clarity over speed.
+//! It is meant to be read beside the rules (`docs/TRACE.md` has them) and to be
+//! compared with the gateway library. It favours clarity over speed.
 
 pub mod alarm_orders;
 pub mod card;

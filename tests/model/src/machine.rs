@@ -1,6 +1,5 @@
-//! Document 01, "The plain machine": the state and the calls that set it;
-//! document 02, L8, for the firmware. Scans, polls and the archive worked out
-//! from the lists are below `src/machine/`.
+//! The plain machine: the state and the calls that set it. Scans, polls and
+//! the archive worked out from the lists are below `src/machine/`.
 //!
 //! Every call is lent archive memory and takes its length, so Memory (1)
 //! applies to each. Numbers that the service card judges may be of any size;
@@ -36,8 +35,8 @@ pub const BOOLEAN_BYTES: usize = 16;
 /// Fresh takes an archive of up to so many bytes.
 pub const MOST_ARCHIVE: usize = 1_048_576;
 
-/// And from so many on: 11,000, but "Memory (1) starts at 3,300 bytes for 73"
-/// (document 02, L8).
+/// And from so many on, the bytes of the alarm file: 11,000, but 3,300 for
+/// firmware 73.
 pub const fn least_archive(firmware: u16) -> usize {
     if firmware == FIRMWARE_73 {
         3_300

@@ -1,4 +1,4 @@
-//! Document 01, "Live table", and the groups of "Records".
+//! The live table's rows, and the groups of records.
 
 use std::ops::Range;
 
@@ -200,7 +200,7 @@ mod tests {
         assert_eq!(next, TABLE_BYTES);
     }
 
-    /// * Groups (7101,3), (5101,3): 30 bytes (002's example).
+    /// * Groups (7101,3), (5101,3): 30 bytes (the Omni bulletin's example).
     #[test]
     fn marked_the_bulletins_example_is_30_bytes() {
         assert_eq!(judge(&[(7101, 3), (5101, 3)]), Ok(30));

@@ -1,7 +1,7 @@
-//! Published Modbus frames with their CRCs, and what document 01, and L3 of
-//! document 02, make of each as a poll. Where a source has a request only, the
-//! reply is written from the papers and its CRC was worked out by the bit rule
-//! in Python.
+//! Published Modbus frames with their CRCs, and what the rules make of each as
+//! a poll, of the archive or of live points. Where a source has a request only,
+//! the reply is written from the rules and its CRC was worked out by the bit
+//! rule in Python.
 
 use crate::foreign::RawState;
 use crate::machine::{least_archive, Machine};

@@ -1,4 +1,4 @@
-//! Document 01, "Reading end": what site software gets out of a reply frame.
+//! The reading end: what site software gets out of a reply frame.
 
 use std::ops::Range;
 
@@ -284,7 +284,7 @@ mod tests {
         assert_eq!(record(&groups, false, &stampless), refusal(14));
     }
 
-    /// Document 02, L1: an impossible day is Garbled. 29 February goes by the
+    /// An impossible day is Garbled. 29 February goes by the
     /// record's own year, and a record of zeros stays Empty.
     #[test]
     fn a_day_that_does_not_exist_is_garbled() {
@@ -299,8 +299,8 @@ mod tests {
         }
     }
 
-    /// Document 02, L5, is about captures: a record from before it, or another
-    /// gateway's, may hold any bytes, and is taken as it stands.
+    /// Texts are cleaned when they are captured: a record from before that was
+    /// so, or another gateway's, may hold any bytes, and is taken as it stands.
     #[test]
     fn texts_are_read_as_they_stand() {
         let groups = groups_from_first_place(&[(4001, 2), (3001, 1), (14001, 2)]);
@@ -316,7 +316,7 @@ mod tests {
         }
     }
 
-    /// Demand 2's blunder: Empty told of a filled record.
+    /// A known blunder: Empty told of a filled record.
     #[test]
     fn a_stamp_over_zeros_is_a_filled_record() {
         let groups = groups_from_first_place(&[(3001, 1)]);

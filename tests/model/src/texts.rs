@@ -1,9 +1,9 @@
-//! Document 02, L5: clean text. The rule, and texts with what is captured of
-//! them, worked out by hand from the paper, for the model and the library.
+//! Clean text. The rule, and texts with what is captured of them, worked out
+//! by hand from it, for the model and the library.
 
-/// "A text byte that is neither 00 nor 20 to 7E hex is now captured as 3F hex,
-/// in both text kinds. Polls of live text follow the same rule." Each byte goes
-/// by itself, also behind a 00.
+/// A text byte that is neither 00 nor 20 to 7E hex is captured as 3F hex, in
+/// both text kinds, and is so in a poll of live text. Each byte goes by itself,
+/// also behind a 00.
 pub fn captured_text_byte(byte: u8) -> u8 {
     match byte {
         0x00 | 0x20..=0x7E => byte,

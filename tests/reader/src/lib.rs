@@ -1,5 +1,5 @@
 //! libreader.a behind safe functions, as include/windrow_reader.h declares it; the model's answers beside its own; replies read
-//! back; random definitions, dates and live tables; records as they were before document 02, L5; seeds.
+//! back; random definitions, dates and live tables; records as they were before texts were cleaned; seeds.
 
 pub mod answers;
 pub mod dates;

@@ -1,6 +1,6 @@
 //! Every call of libreader.a against the model's reading end, and every decoded point against the live table, on random definitions,
-//! right replies and faulty ones; and its CRC against the model's, on random bytes. Every other record is one from before document
-//! 02, L5, with its texts as they stood in the table.
+//! right replies and faulty ones; and its CRC against the model's, on random bytes. Every other record is one from before texts
+//! were cleaned, with its texts as they stood in the table.
 //!
 //!     reader [SEED [ROUNDS]]
 //!

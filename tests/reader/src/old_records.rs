@@ -1,4 +1,4 @@
-//! Records as gateways captured them before document 02, L5: with the bytes that their texts had in the live table. Archive memory
+//! Records as gateways captured them before texts were cleaned: with the bytes that their texts had in the live table. Archive memory
 //! may still hold such ones.
 
 use std::ops::Range;

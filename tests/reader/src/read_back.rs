@@ -16,7 +16,7 @@ pub struct Given<'a> {
     pub frame: &'a [u8],
 }
 
-/// How a record has the texts of the live table: clean since document 02, L5, and before it as they stood.
+/// How a record has the texts of the live table: clean, or, as before texts were cleaned, as they stood.
 #[derive(Clone, Copy)]
 pub enum Texts {
     Clean,

@@ -1,4 +1,4 @@
-//! Random live tables whose texts are of every sort that document 02, L5, tells apart.
+//! Random live tables whose texts are of every sort that the rule of clean text tells apart.
 
 use model::points::{ROWS, TABLE_BYTES};
 use model::texts::is_clean;

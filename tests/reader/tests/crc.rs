@@ -1,4 +1,4 @@
-//! The library's CRC, by a table (document 02, L7), beside the model's, by the bit rule.
+//! The library's CRC, by a table of 256 steps, beside the model's, by the bit rule.
 
 use model::crc::crc16;
 use reader::ffi;

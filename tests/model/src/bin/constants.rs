@@ -1,6 +1,5 @@
-//! Prints the numbers of document 01 and of the requests that have landed, the
-//! card's words and the rows of the live table as lines, under the names that
-//! the C headers have for them, for comparison with what tests/c/constants.c
+//! Prints the numbers of the rules, the card's words and the rows of the live
+//! table as lines, under the names that the C headers have for them, for comparison with what tests/c/constants.c
 //! prints from the headers.
 
 use std::mem::size_of_val;
@@ -139,9 +138,9 @@ fn points() {
     show("LITRES_OF_WATER", LITRES_OF_WATER);
 }
 
-/// The kinds that the reading end answers, counted in the order in which
-/// document 01 has them: "flag, 16-bit, 32-bit, float pattern, or the text's
-/// place and length". 0 stands for a refusal.
+/// The kinds that the reading end answers, counted in this order: flag, 16-bit,
+/// 32-bit, float pattern, or the text's place and length. 0 stands for a
+/// refusal.
 const KINDS: [&str; 6] = ["NONE", "FLAG", "INT16", "INT32", "FLOAT", "TEXT"];
 
 fn kind_number(kind: Kind) -> usize {

@@ -1,4 +1,4 @@
-//! Prints the live table, by document 01's rows, that holds a value of its
+//! Prints the live table, by the model's rows, that holds a value of its
 //! own in every point, as lines of 16 bytes in hexadecimal digits, for
 //! comparison with what tests/c/points.c puts through the C accessors; then
 //! the sizes of records with one group and an int16, or 0 for a bad group.

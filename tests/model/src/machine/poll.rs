@@ -1,5 +1,5 @@
-//! Document 01, "Frames": the Modbus RTU answering end; and document 02, L3:
-//! the live table, of which 01 reads the Booleans and 03 the other rows.
+//! The Modbus RTU answering end, for the archive and for the live table, of
+//! which 01 reads the Booleans and 03 the other rows.
 
 use super::Machine;
 use crate::card::{self, lowest, Answer};

@@ -1,6 +1,6 @@
-//! The marked cases (*) and known blunders of document 01 that are about
-//! the machine, and the rules of each call; live points of document 02, L3, the
-//! order of alarms, L4, clean text, L5, and alarm depth by firmware, L8.
+//! The marked cases (*), inputs with what the rules give for them, and known
+//! blunders that are about the machine, and the rules of each call; live
+//! points, the order of alarms, clean text, and alarm depth by firmware.
 
 use super::*;
 use crate::alarm_orders::table_with;

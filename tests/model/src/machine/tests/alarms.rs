@@ -1,5 +1,5 @@
-//! Document 02, L4: among the alarm records of one scan those with new bit 0
-//! come first, then those with 1; within each by point, then slot.
+//! Among the alarm records of one scan those with new bit 0 come first, then
+//! those with 1; within each by point, then slot.
 
 use super::*;
 use crate::alarm_orders::{

@@ -1,4 +1,4 @@
-//! Document 02, L8: alarm depth by firmware.
+//! Alarm depth by firmware.
 
 use super::*;
 use crate::depths::{alarm_of, stamp_of, DEPTHS, FRESHES, OTHER_FIRMWARES, RINGS, STARTS};

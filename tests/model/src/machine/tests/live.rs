@@ -1,4 +1,4 @@
-//! Document 02, L3: live points by poll.
+//! Live points by poll.
 
 use super::*;
 use crate::frames::{data_reply, ILLEGAL_ADDRESS, ILLEGAL_FUNCTION, ILLEGAL_VALUE};
@@ -85,7 +85,7 @@ fn other_points_stand_as_in_the_table() {
 }
 
 /// What is wanted of every start and quantity, worked out from the table as
-/// one number (Booleans), as plain bytes, or as texts by L5's list.
+/// one number (Booleans), as plain bytes, or as texts by the list of clean ones.
 fn wanted(table: &[u8], row: usize, first: u16, quantity: u16) -> Vec<u8> {
     let (function, row_first, last, bits, from_byte) = ROWS[row];
     let count = usize::from(quantity);

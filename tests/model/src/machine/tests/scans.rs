@@ -136,7 +136,7 @@ fn scan_answers_the_lowest_that_applies_and_changes_nothing() {
     assert_eq!(machine, before);
 }
 
-/// Document 02, L1: a day must exist in its month.
+/// A day must exist in its month.
 #[test]
 fn a_day_that_does_not_exist_is_refused_and_changes_nothing() {
     let mut machine = running_with_file_1(4);

@@ -3,8 +3,8 @@
 use super::*;
 use crate::depths::DEPTHS;
 
-/// * Memory 11,006: one file of one bare stamp starts; 11,005: 11. Document 02,
-///   L8: "the marked memory cases are for 74".
+/// * Memory 11,006: one file of one bare stamp starts; 11,005: 11. That is for
+///   firmware 74.
 #[test]
 fn marked_room_for_one_bare_stamp() {
     for (length, number) in [(11_006, 0), (11_005, 11)] {

@@ -62,7 +62,8 @@ fn record_k_is_its_slots_bytes() {
     assert_eq!(ask(&mut machine, UNIT, 3, 721, 4), junk);
 }
 
-/// Document 02, L1: an old record reads as Garbled, and is polled as before.
+/// An old record of a day that does not exist reads as Garbled, and is polled
+/// as before.
 #[test]
 fn an_old_record_of_an_impossible_day_is_polled_as_it_stands() {
     let raw = running_with_file_1(4).raw_state();

@@ -1,5 +1,5 @@
-//! Document 02, L5: clean text, captured and polled live; what lies in archive
-//! memory is polled as it stands.
+//! Clean text, captured and polled live; what lies in archive memory is polled
+//! as it stands.
 
 use super::*;
 use crate::frames::data_reply;
