@@ -1,4 +1,4 @@
--- Document 01, "The plain machine" and "Numbers on the service card": the settings calls. m is the archive memory that a call is
+-- The settings calls, and what the service card tells of them. m is the archive memory that a call is
 -- lent; files and slots are counted from 1, as callers name them.
 use Rattle.std.specs.Prelude.{List, ◌≡◌, Bool, true, false, cond, not, ◌&&◌, ℕ, ◌-◌, eqb, length, set, replicate, Result, Ok, Err}
 use Rattle.basics.specs.declared.card.Refusal.{Refusal}
@@ -121,7 +121,7 @@ pub record Started (s : State) (m : List ℕ) (r : Answer) (m' : List ℕ) : Typ
   pub answer : r ≡ start_answer s (length m)
   pub memory : m' ≡ start_memory s m
 
--- ---- Fresh: a firmware other than 73 and 74 is 2, the one check before Memory (document 02, L8); archive length under the alarm file
+-- ---- Fresh: a firmware other than 73 and 74 is 2, the one check before Memory; archive length under the alarm file
 -- alone, 3,300 for 73 and 11,000 for 74, or over 1,048,576 is Memory (1); a unit not 1-247 is 2. Refused, it hands back a state of zeros
 abbrev pub most_memory : ℕ
 most_memory = 1048576

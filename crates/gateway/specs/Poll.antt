@@ -1,4 +1,4 @@
--- Document 01, "Frames", with document 02, L3 and L5, as a call: lent archive memory m, a live table, a frame and a reply buffer.
+-- A frame answered, as a call: lent archive memory m, a live table, a frame and a reply buffer.
 -- Memory (1), Foreign (2), Table (3), Reply (13).
 use Rattle.std.specs.Prelude.{List, ◌≡◌, cond, not, ℕ, eqb, ltb, length, Result, Ok, Err}
 use Rattle.basics.specs.declared.card.Refusal.{Refusal}
@@ -46,7 +46,7 @@ unfoldable pub poll_buffer : State → List ℕ → List ℕ → List ℕ → Li
 poll_buffer s m table frame buffer =
     cond (eqb (poll_number s (length m) (length table) (length buffer)) 0) (pasted buffer 0 (reply_to (poll_view s m table) frame)) buffer
 
--- archive memory stays, and so does the live table (document 02, L5), whatever is polled
+-- archive memory stays, and so does the live table, whatever is polled
 pub record Polled (s : State) (m table frame buffer : List ℕ) (r : PollAnswer) (m' table' buffer' : List ℕ) : Type 0 where
   pub answer : r ≡ poll_answer s m table frame (length buffer)
   pub memory : m' ≡ m

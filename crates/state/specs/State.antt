@@ -1,5 +1,5 @@
--- Document 01, "The plain machine": the state that each call is given and hands back, and what a change of a part makes of it.
--- Where the machine has a list of captures for a file, the state has the file's pointer, which demand 3's formula gives from the
+-- The state that each call is given and leaves, and what a change of a part makes of it.
+-- Where the machine has a list of captures for a file, the state has the file's pointer, which follows from the
 -- list's length (0 for an empty list), and the records themselves stand in archive memory.
 use Rattle.std.specs.Prelude.{Bool, true, false, List, ℕ, replicate}
 use Rattle.archive.specs.declared.alarms.Slot.{Slot}
@@ -15,7 +15,7 @@ use Rattle.state.specs.declared.parts.State.{State}
 use Rattle.state.specs.Firmware.{alarm_depth}
 
 -- ---- the layout in force
--- the depth of a site's alarm file, by its firmware (document 02, L8)
+-- the depth of a site's alarm file, by its firmware
 abbrev pub depth_of : Site → ℕ
 depth_of site = alarm_depth site.firmware
 

@@ -1,4 +1,4 @@
--- Document 01, rows 1 and 2 of the service card: what every call but Fresh looks at first.
+-- The first two rows of the service card: what every call but Fresh looks at first.
 use Rattle.std.specs.Prelude.{List, Bool, cond, not, ◌&&◌, ℕ, eqb, leb, get_or}
 use Rattle.basics.specs.Card.{memory_no, foreign_no, done_no}
 use Rattle.modbus.specs.Frame.{good_unit}
@@ -33,7 +33,7 @@ unfoldable pub files_valid : Layout → ℕ → List ℕ → List ℕ → Bool
 files_valid l size pointers requested =
     good_files l.groups && (has_room l size && (within_limits pointers l && within_limits requested l))
 
--- unit 1-247; firmware 73 or 74 (document 02, L8)
+-- unit 1-247; firmware 73 or 74
 unfoldable pub site_valid : Site → Bool
 site_valid site = good_unit site.unit && good_firmware site.firmware
 
