@@ -1,6 +1,7 @@
 -- Laws of the calls' answers. Assumes nothing.
---     refused_first    the state's own number, Memory (1) or Foreign (2), is by_number before what the call itself would answer
---     fresh-parts, fresh-fits    what Fresh takes keeps its rules, and fits the state's fields
+--     some_number      no refusal has the number of a call that is done
+--     refused_some, refused_first    the state's own number, Memory (1) or Foreign (2), comes before what the call itself would answer
+--     fresh-parts      what Fresh takes keeps its rules
 --     own_next         where neither applies, the call's own answer stands
 --     point_small, slot_small    a point that is taken fits 16 bits, and so does a slot that is
 use Rattle.basics.specs.declared.card.Refusal.{Refusal}
@@ -16,12 +17,12 @@ use Rattle.points.specs.Table.{boolean_or_none, float_or_none}
 use Rattle.points.proofs.Laws.{boolean-inside, float-inside}
 use Rattle.archive.specs.Alarms.{good_slot}
 use Rattle.basics.specs.Numbers.{within}
-use Rattle.basics.proofs.Tests.{and_left, and_right, eq-or-not, within-inside, refused-number}
+use Rattle.basics.proofs.Tests.{and_left, and_right, eq-or-not, refused-number}
 use Rattle.modbus.specs.Frame.{good_unit}
 use Rattle.state.specs.declared.parts.State.{State}
 use Rattle.gateway.specs.declared.calls.Answer.{Answer}
 use Rattle.gateway.specs.Calls.{told, settled, most_memory, fresh_number}
-use Rattle.state.specs.Firmware.{older_firmware, newer_firmware, good_firmware, least_memory}
+use Rattle.state.specs.Firmware.{good_firmware, least_memory}
 use Rattle.state.specs.Validity.{state_number}
 
 -- no refusal has the number of a call that is done
@@ -60,15 +61,6 @@ fresh-parts unit firmware size taken =
     go true false b q = absurd (omega (arith, q))
     go true true false q = absurd (omega (arith, q))
     go true true true q = (refl, refl, refl)
-
-pub fresh-fits : (unit firmware size : ℕ) → fresh_number unit firmware size ≡ 0 → (unit ≤ 247) × (firmware ≤ newer_firmware) × (size ≤ most_memory)
-unfolding good_firmware
-fresh-fits unit firmware size taken =
-    let k = fresh-parts unit firmware size taken in (
-      (within-inside 1 247 unit k.ours).1,
-      (within-inside older_firmware newer_firmware firmware k.known).1,
-      (within-inside (least_memory firmware) most_memory size k.memory).1,
-    )
 
 -- ---- what is stored in 16 bits
 pub point_small : (p : ℕ) → boolean_or_none p ≡ true → p ≤ 1928

@@ -1,6 +1,5 @@
 -- What callers' proofs cite of this crate, and what several of its own do.
 pub mod Answers
-pub mod Zeros
 pub mod Drafts
 pub mod Settings
 pub mod Valid

@@ -1,10 +1,7 @@
 -- Laws of the poll. Assumes nothing.
---     poll-number-is    the code's number, in the words of the definition
---     poll-taken        none of a poll's numbers applies
---     poll-lends, poll-sees    what the answering function is lent then, and sees: by the state's depth
---     poll-refuses, poll-done    what a refused poll leaves, and one that is done
---     poll-short        its reply's length fits
---     poll-valid        it leaves a valid state valid
+--     poll_refused, table_refused, buffer_refused    what a poll leaves that is refused
+--     poll_lends, poll_done, poll_short    what the answering function is lent, what it leaves, and that the reply's length fits
+--     poll-valid        a poll leaves a valid state valid
 use mathlib.Core.Path.{◌≡◌, refl, ap, ◌∙◌}
 use mathlib.Core.List.{List}
 use mathlib.Core.Bool.{true, false}

@@ -2,6 +2,7 @@
 --     valid-split, valid-join    a valid state, and its clauses
 --     site-split, site-join      a valid site: its unit and its firmware
 --     state-taken, state-takes   neither Memory (1) nor Foreign (2) applies
+--     bad_files                  laid-out definitions that are not good make the state one that is not valid
 --     within-split, within-join  numbers within their limits, one by one
 use mathlib.Core.Path.{◌≡◌, refl}
 use mathlib.Core.List.{List}
@@ -88,6 +89,16 @@ state-taken s size taken = go (eqb size s.site.archive_length) (valid s) refl ta
 pub state-takes : (s : State) (size : ℕ) → size ≡ s.site.archive_length → valid s ≡ true → state_number s size ≡ 0
 unfolding state_number
 state-takes s size same v = simp (eq-eqb _ _ same, v)
+
+-- ---- a part that fails makes the whole fail
+pub bad_files : (s : State) → good_files s.files.layout.groups ≡ false → valid s ≡ false
+unfolding valid files_valid
+bad_files s bad = go (flags_valid s.flags) (settings_valid s.settings)
+  where
+    go : (a b : Bool) → (a && (b && ((good_files s.files.layout.groups && (has_room (laid_out s) s.site.archive_length && (within_limits s.files.pointers (laid_out s) && within_limits s.line.requested (laid_out s)))) && site_valid s.site))) ≡ false
+    go true true = simp bad
+    go true false = refl
+    go false b = refl
 
 -- ---- numbers within their limits
 pub within-split : (numbers : List ℕ) (l : Layout) → within_limits numbers l ≡ true → (f : ℕ) → f < all_files → get_or numbers f 0 ≤ limit_of l f

@@ -1,13 +1,12 @@
 // What makes a state Foreign: a part that is against its rule.
-ghost use Rattle.std.specs.Prelude.{◌≡◌, true, eqb, get_or};
+ghost use Rattle.std.specs.Prelude.{◌≡◌, ◌&&◌, true, eqb, get_or};
 ghost use Rattle.std.specs.List.{list_all};
 ghost use Rattle.points.specs.Table.{boolean_or_none};
 ghost use Rattle.archive.specs.Alarms.{good_slot, good_slots};
-ghost use Rattle.archive.specs.Layout.{Layout, every, is_good, good_files, layout_of};
-ghost use Rattle.archive.specs.Lent.{LaidOut};
+ghost use Rattle.archive.specs.Layout.{Layout, every, is_good, good_files, has_room};
+ghost use Rattle.archive.specs.Lent.{AreSmall, LaidOut};
 ghost use Rattle.state.specs.State.{depth_of};
 ghost use Rattle.state.specs.Validity.{flags_valid, site_valid, settings_valid, within_limits};
-ghost use Rattle.state.specs.Lent.{JudgedFiles};
 
 use crate::firmware::{alarm_depth, is_firmware_good};
 use crate::parts::{Files, Flags, Settings, Site};
@@ -74,8 +73,9 @@ fn are_slots_good(slots: &[Slot; 32]) -> bool
     good
 }
 
-// Whether 32 numbers keep the rules of a definition.
+// Whether 32 numbers keep the rules of a definition. It is seldom asked, and not put into its caller, which would make room for ten.
 #[tactic(auto, unfolding(archive::specs::Layout::is_good))]
+#[inline(never)]
 fn is_definition_good(groups: &[u16; 32]) -> bool
     ensures { result ≡ is_good groups.now }
 {
@@ -141,27 +141,13 @@ fn are_within(numbers: &[u16; FILES], files: &[File; FILES]) -> bool
 }
 
 impl Files {
-    // Where the laid-out files lie, if their definitions are good, they fit the archive, and no pointer or requested number is over its n.
-    #[tactic(auto, unfolding(crate::specs::Validity::files_valid, archive::specs::Layout::has_room))]
-    pub fn laid_out(
-        &self,
-        requested: &[u16; FILES],
-        depth: u16,
-        size: usize,
-    ) -> Option<[File; FILES]>
-        ensures { JudgedFiles (layout_of self.now.layout depth)
-            size self.now.pointers requested.now result }
+    // Whether files laid out so fit the archive, and no pointer and no requested number is over its n.
+    #[tactic(auto, unfolding(archive::specs::Layout::has_room))]
+    pub fn fit(&self, files: &[File; FILES], requested: &[u16; FILES], size: usize) -> bool
+        requires { AreSmall files.now }
+        ensures { (l : Layout) → LaidOut l files.now
+            → result ≡ has_room l size && (within_limits self.now.pointers l && within_limits requested.now l) }
     {
-        let files = self.layout.files(depth)?;
-        if size < end_of(&files) {
-            return None;
-        }
-        if !are_within(&self.pointers, &files) {
-            return None;
-        }
-        if !are_within(requested, &files) {
-            return None;
-        }
-        Some(files)
+        end_of(files) <= size && are_within(&self.pointers, files) && are_within(requested, files)
     }
 }

@@ -1,9 +1,6 @@
-use mathlib.Core.Path.{◌≡◌, sym, ap}
-use mathlib.Core.Bool.{◌&&◌}
+use mathlib.Core.Path.{◌≡◌, sym}
 use native.Mathlib.Omega.{arith}
 use native.Mathlib.Numerals.{add-one}
-use lib.Dec.{eqb}
-use lib.ListN.{get_or}
 use Rattle.archive.specs.Layout.{every}
 use Rattle.archive.proofs.Layouts.{every-none}
 use Rattle.state.proofs.validity.are_same.Goals as goal
