@@ -1,5 +1,5 @@
 -- Laws of the poll. Assumes nothing.
---     poll_refused, table_refused, buffer_refused    what a poll leaves that is refused
+--     poll-refuses      what a poll leaves that is refused; poll_refused, table_refused, buffer_refused    the same, by each of its refusals
 --     poll_lends, poll_done, poll_short    what the answering function is lent, what it leaves, and that the reply's length fits
 --     poll-valid        a poll leaves a valid state valid
 use mathlib.Core.Path.{◌≡◌, refl, ap, ◌∙◌}
@@ -36,11 +36,16 @@ module _ (s : State) (m table frame buffer : List ℕ) where
   abbrev number : ℕ
   number = poll_number s (length m) (length table) (length buffer)
 
-  refused : (e : Refusal) → (card_of e).number ≡ number → Polled s m table frame buffer (poll_told s (card_of e).number 0) m table buffer
+  -- refused by any number, all stays
+  pub poll-refuses : (n : ℕ) → n ≡ poll_number s (length m) (length table) (length buffer) → (n ≡ 0 → ⊥) →
+      Polled s m table frame buffer (poll_told s n 0) m table buffer
   unfolding poll_answer poll_buffer
-  refused e is =
-      let some : eqb number 0 ≡ false = ne_eqb number 0 (λ none. some_number e (is ∙ none)) in
-      record { answer = rw (is, some) refl; memory = refl; kept = refl; reply = rw some refl }
+  poll-refuses n is some =
+      let refused : eqb number 0 ≡ false = ne_eqb number 0 (λ none. some (is ∙ none)) in
+      record { answer = rw (is, refused) refl; memory = refl; kept = refl; reply = rw refused refl }
+
+  refused : (e : Refusal) → (card_of e).number ≡ number → Polled s m table frame buffer (poll_told s (card_of e).number 0) m table buffer
+  refused e is = poll-refuses (card_of e).number is (some_number e)
 
   -- refused for its state, for its table, or for its reply buffer
   pub poll_refused : (e : Refusal) → card_of e ≡ card (state_number s (length m)) 0 →

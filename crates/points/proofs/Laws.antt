@@ -17,13 +17,13 @@ use native.Mathlib.Numerals.{add-one}
 use native.Mathlib.Decide.{le_ind}
 use lib.Dec.{leb, ltb, eqb, eqb-suc-zero}
 use lib.ListN.{length, get_or, take, drop, length-drop}
-use lib.Seq.{drop-cons, get_or-drop, take_all}
+use lib.Seq.{get_or-drop, take_all}
 use borrow.Author.Tests.{eqb-true, leb-true, ltb-true, ltb-false, ne_eqb, le-leb, lt-leb}
 use Rattle.basics.proofs.Tests.{and_left, and_right}
 use Rattle.points.specs.declared.table.Kind.{Kind}
 use Rattle.points.specs.declared.table.Kind.TheVariants.{Boolean, Int16, Text8, Int32, Float, Text16}
 use Rattle.points.specs.declared.table.Row.{Row}
-use Rattle.std.specs.Prelude.{Option, Some, None, Result, Ok, Err, find}
+use Rattle.std.specs.Prelude.{Option, Some, None, Ok, Err, find}
 use Rattle.basics.specs.declared.card.Refusal.TheVariants as refusal
 use Rattle.basics.specs.Card.{card_told}
 use Rattle.points.specs.declared.groups.Group.{Group}

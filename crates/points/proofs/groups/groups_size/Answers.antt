@@ -1,6 +1,5 @@
-use Rattle.std.proofs.Common.{◌≡◌, refl, ap, ap₂, ◌∙◌, ◌+◌}
+use Rattle.std.proofs.Common.{refl, ap, ◌∙◌, ◌+◌}
 use native.Mathlib.Omega.{arith}
-use native.Mathlib.Numerals.{add-one}
 use Rattle.points.specs.Groups.{groups_size, group_size, count_at}
 use Rattle.points.proofs.Laws.{groups-size-small, groups-size-next}
 use Rattle.points.proofs.groups.groups_size.Goals as goal
