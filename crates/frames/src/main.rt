@@ -8,7 +8,7 @@ use modbus::crc::{crc_of, ends_in_crc};
 use std::io;
 
 // How many damaged copies of a frame were tried, and how many of them the frame check refused.
-#[derive(Clone, Copy, Default)]
+#[derive(Clone, Copy, Debug, Default, PartialEq, Eq)]
 struct Tally {
     tried: u64,
     refused: u64,
@@ -26,6 +26,7 @@ impl Tally {
 }
 
 // A frame's bytes at the start of an array.
+// An array and no Vec, as in the library, which has no heap: every function down to here asks that a frame has at most 16 bytes.
 fn copy_of(frame: &[u8]) -> [u8; 16]
     requires { length frame.now ≤ 16 }
 {

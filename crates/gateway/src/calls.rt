@@ -1,5 +1,6 @@
 // The settings calls on a state where it stands. Each is refused by the first row of the card that applies, and then changes nothing.
 // They are functions and no methods: an inherent impl belongs into the crate of its type, and a trait for one type says no more.
+// State and archive come as two: C stores the one and lends the other.
 ghost use Rattle.std.specs.Prelude.{◌≡◌, true, false, ◌-◌, MatchResult};
 ghost use Rattle.basics.specs.Card.{card_told};
 ghost use Rattle.basics.specs.Numbers.{within};
@@ -13,8 +14,9 @@ use points::table::is_boolean_or_none;
 use state::parts::State;
 use state::validity::is_slot_good;
 
+// What C gets of a call, by value: its header fixes the fields, and an exported function can answer no enum.
 #[repr(C)]
-#[derive(Clone, Copy)]
+#[derive(Clone, Copy, Debug, PartialEq, Eq)]
 pub struct Answer {
     pub number: u32,
     pub carried: u32,
@@ -56,6 +58,7 @@ pub fn lock(state: &mut State, archive: &[u8]) -> Result<(), Refusal>
 }
 
 // Stop: running off.
+// It is no twin to share with Lock: a function that gets the field would be as long as the two are.
 #[tactic(auto, using(crate::proofs::Answers::refused_first, crate::proofs::Answers::own_next), unfolding(crate::specs::Calls::stop_answer))]
 pub fn stop(state: &mut State, archive: &[u8]) -> Result<(), Refusal>
     ensures { Stopped state.old archive.now (answer_of result state.new) archive.now }
@@ -106,6 +109,7 @@ pub fn trigger(state: &mut State, archive: &[u8], file: u32, point: u32) -> Resu
 }
 
 // The alarm slot of three fields, each of which is checked even when the slot is off.
+// Three numbers as C hands them in: a Slot of 16 bits each is made once they are judged.
 #[tactic(auto, using(crate::proofs::Answers::slot_small))]
 fn slot_of(point: u32, kind: u32, transducer: u32) -> Result<Slot, Refusal>
     ensures { MatchResult result

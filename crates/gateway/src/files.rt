@@ -78,6 +78,7 @@ fn has_draft_room(draft: &Definitions, depth: u16, size: usize) -> bool
     requires { good_files draft.now.groups ≡ true }
     ensures { result ≡ has_room (layout_of draft.now depth) size }
 {
+    // a match: what `end_of` asks of the files is shown in its arm
     match draft.files(depth) {
         Some(files) => end_of(&files) <= size,
         None => false,

@@ -9,8 +9,9 @@ use polls::view::View;
 use state::parts::State;
 
 // The card's number, the reply's length, 0 for none, and the state.
+// C gets it by value: its header fixes the fields.
 #[repr(C)]
-#[derive(Clone, Copy)]
+#[derive(Clone, Copy, Debug, PartialEq, Eq)]
 pub struct PollAnswer {
     pub number: u32,
     pub length: u32,
@@ -18,6 +19,7 @@ pub struct PollAnswer {
 }
 
 // What C is told of a poll beside the state: the card's number, and the reply's length.
+// The state is not in it: only one copy of it is made where the answer is built of it.
 #[derive(Clone, Copy, Debug, PartialEq, Eq)]
 pub struct PollTold {
     pub number: u32,
@@ -68,6 +70,7 @@ pub fn poll(
         table,
     };
     let answered = view.answer(reply, frame);
+    // the array has a name first: stored from the field of another struct, it has no generated proof
     let numbers = answered.requested;
     state.line.requested = numbers;
     Ok(answered.length as u32)

@@ -1,5 +1,6 @@
 // The gateway as firmware links it: the ten calls of `gateway`, exported for C by the library's own clauses. C hands a state in and gets
 // it back by value; the library changes it where it stands.
+// Each call builds its answer where its state stands: a function that did so for all would be handed the state, one copy of 1.6 KB more.
 #![tactic(auto)]
 
 ghost use Rattle.gateway.specs.Calls.{Locked, Stopped, Unlocked, TriggerSet, AlarmSet, MadeFresh, Defined, Started};

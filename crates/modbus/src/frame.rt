@@ -76,6 +76,8 @@ fn write_crc(buffer: &mut [u8], n: usize)
 }
 
 // Makes a read reply of the bytes that stand from byte 3 on, and answers its length. It carries the function that asked.
+// Function and code are bytes, as a frame has them: an exception answers functions too that no enum has, and an enum would ask more of
+// callers. Buffer, unit and function go on as they are: a struct of them would be built for one call and taken apart there.
 pub fn close_read_reply(buffer: &mut [u8], unit: u8, function: u8, size: usize) -> usize
     requires { (size ≤ 250) × (size + 5 ≤ length buffer.old) }
     ensures { Sent (read_reply_by unit function (take size (drop 3 buffer.old)))

@@ -6,14 +6,17 @@ use crate::table::Row;
 use basics::card::Refusal;
 
 // The numbers of a definition.
+// A definition's numbers stand flat, two for a place: C hands them in and stores them so, and pairs would be a copy.
 pub const NUMBERS: usize = 32;
 
 // The bytes of a record's stamp, and the most of a record.
+// Each function that needs the bound asks it in its own words: a type for a size would be taken off at each sum.
 pub const STAMP_BYTES: usize = 6;
 
 pub const MOST_BYTES: usize = 250;
 
 // A group: unused, points of one row, or against the rule.
+// Three cases by name: a Result of an Option says no more, and its cases would be Ok(None), Ok(Some(row)) and Err(()).
 #[derive(Clone, Copy, Debug, PartialEq, Eq)]
 pub enum Group {
     Unused,
@@ -21,12 +24,14 @@ pub enum Group {
     Bad,
 }
 
+// Point and count stay two numbers, as a definition and a request have them.
 impl Group {
     // What the group of `count` points from `point` on is. An unused one needs no lookup.
     #[tactic(auto, unfolding(crate::specs::Groups::group_of, crate::specs::Groups::unused))]
     pub fn of(point: u16, count: u16) -> Group
         ensures { result ≡ group_of point count }
     {
+        // two numbers against 0 each: a tuple is no plainer
         if point == 0 && count == 0 {
             return Group::Unused;
         }
@@ -57,6 +62,7 @@ impl Group {
 }
 
 // The group at place g of a definition, counted from 0.
+// A place is a plain number below 16: its own type would be made and taken off at each turn of a loop.
 pub fn group_at(groups: &[u16; NUMBERS], g: usize) -> Group
     requires { g < 16 }
     ensures { result ≡ group_at groups.now g }

@@ -1,6 +1,6 @@
 // The six rows of the live table.
-ghost use Rattle.std.specs.Prelude.{◌≡◌};
-ghost use Rattle.points.specs.Table.{in_row, row_of, points_size, boolean_or_none, float_or_none};
+ghost use Rattle.std.specs.Prelude.{◌≡◌, ◌*◌, ◌<◌, eqb, length};
+ghost use Rattle.points.specs.Table.{in_row, row_of, points_size, flag_at, boolean_or_none, float_or_none};
 ghost use Rattle.points.specs.Groups.{ends_in_row};
 
 // What a row's points are.
@@ -15,6 +15,7 @@ pub enum Kind {
 }
 
 // The points `first` to `last` take `size` bytes each, 0 standing for one bit, from byte `offset` of the table on.
+// One constant table of such rows is a form that the project asks for; 0 says in the row's own numbers that a point is one bit.
 #[derive(Clone, Copy, Debug, PartialEq, Eq)]
 pub struct Row {
     pub kind: Kind,
@@ -86,7 +87,7 @@ impl Row {
     fn holds(&self, point: u32) -> bool
         ensures { result ≡ in_row self.now point }
     {
-        (u32::from(self.first) <= point) & (point <= u32::from(self.last))
+        (u32::from(self.first)..=u32::from(self.last)).contains(&point)
     }
 
     // The row that holds a point: the one lookup of the table.
@@ -119,7 +120,17 @@ impl Row {
     }
 }
 
+// Whether Boolean number i of these bytes is on, lowest bit first.
+pub fn is_flag_on(bytes: &[u8], i: usize) -> bool
+    requires { i < 8 * length bytes.now }
+    ensures { result ≡ eqb (flag_at bytes.now 0 i) 1 }
+{
+    (bytes[i / 8] >> (i % 8)) % 2 == 1
+}
+
 // Whether a point is a Boolean or 0.
+// C hands in and stores 0 for none, in place of an Option. Two functions have the names that the contracts have: one that is handed the
+// row is no shorter at its calls.
 #[tactic(auto, unfolding(crate::specs::Table::boolean_or_none))]
 pub fn is_boolean_or_none(point: u32) -> bool
     ensures { result ≡ boolean_or_none point }

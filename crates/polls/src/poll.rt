@@ -1,4 +1,4 @@
-// A frame answered.
+// A frame answered at the start of the lent reply buffer that it is sent from; so what is answered is a length.
 ghost use Rattle.std.specs.Prelude.{◌≡◌, take, drop};
 ghost use Rattle.archive.specs.Ring.{record_place};
 ghost use Rattle.modbus.specs.Frame.{read_reply, Sent};
@@ -14,6 +14,7 @@ use modbus::crc::ends_in_crc;
 use modbus::frame::{Exception, write_exception};
 
 // What a poll leaves: the reply's length, 0 for none, and the requested numbers.
+// C is told the length as it is, and no reply has 0 bytes: an Option would be taken apart again.
 #[derive(Clone, Copy, Debug, PartialEq, Eq)]
 pub struct Answered {
     pub length: usize,
@@ -106,8 +107,8 @@ impl View<'_> {
         let numbers = requested_by(asked, requested);
         if !ours {
             return Answered {
-                length: 0,
                 requested: numbers,
+                ..silent
             };
         }
         let length = reply_to(asked, buffer, frame, self);

@@ -34,6 +34,7 @@ pub fn send_echo(buffer: &mut [u8], frame: &[u8]) -> usize
 }
 
 // Register number i, counted from 0: n, pointer and requested number of file after file.
+// The remainder is the register's place in its file's three, as the address table counts them.
 #[tactic(auto, unfolding(crate::specs::Frames::register))]
 fn register_at(view: &View, i: usize) -> u16
     requires { i < 33 }
@@ -60,6 +61,7 @@ pub fn send_registers(buffer: &mut [u8], view: &View, first: usize, count: usize
 }
 
 // Sends live points, as a capture has them, as a read reply by the function that asked, and answers its length.
+// The function is the byte that asked, as `close_read_reply` takes it.
 pub fn send_points(
     buffer: &mut [u8],
     unit: u8,

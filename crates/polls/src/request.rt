@@ -34,7 +34,7 @@ impl Part {
 }
 
 // What a request asks for once it has passed its checks. Files and registers are counted from 0, records from 1.
-#[derive(Clone, Copy)]
+#[derive(Clone, Copy, Debug, PartialEq, Eq)]
 pub enum Asked {
     Record {
         file: usize,

@@ -1,4 +1,5 @@
 // The reply frame and the record in it.
+// Groups, date order and frame are what C hands in: a struct of them would be built and read once a call.
 ghost use Rattle.std.specs.Prelude.{◌≡◌, true, ◌+◌, ◌≤◌, length, IfOk};
 ghost use Rattle.basics.specs.Lists.{all_zero};
 ghost use Rattle.reader.specs.Frame.{is_reply, record_part, record_checked, reply_checked, frame_checked, Passed};
@@ -7,6 +8,7 @@ ghost use Rattle.reader.specs.Answers.{found_record, found_stamp};
 use crate::answers::Part;
 use basics::card::Refusal;
 use modbus::crc::ends_in_crc;
+use modbus::frame::Function;
 use points::groups::judge;
 use records::stamp::Stamp;
 
@@ -19,7 +21,7 @@ fn is_reply(frame: &[u8], size: usize) -> bool
 {
     frame.len() == size + 5
         && (1..=247).contains(&frame[0])
-        && frame[1] == 3
+        && frame[1] == u8::from(Function::Read)
         && usize::from(frame[2]) == size
         && ends_in_crc(frame)
 }

@@ -10,7 +10,7 @@ use points::groups::{NUMBERS, STAMP_BYTES, group_at, groups_size};
 use points::{Group, Row};
 
 // A place that has points: their row and number, and their bytes with the byte of the frame at which these start.
-#[derive(Clone, Copy, Debug)]
+#[derive(Clone, Copy, Debug, PartialEq, Eq)]
 pub struct Stretch<'a> {
     pub row: Row,
     pub count: u16,

@@ -11,7 +11,9 @@ use crate::answers::{Part, Value};
 use crate::stretch::{Stretch, stretch_of};
 use basics::card::Refusal;
 use points::Kind;
+use points::table::is_flag_on;
 
+// One line for each kind: a function for all three would need a trait of widths with laws, longer than they are.
 // The signed 16-bit number whose high byte is at place i.
 fn int16_at(bytes: &[u8], i: usize) -> i16
     requires { i + 2 ≤ length bytes.now }
@@ -36,14 +38,6 @@ fn float_at(bytes: &[u8], i: usize) -> u32
     u32::from_be_bytes([bytes[i], bytes[i + 1], bytes[i + 2], bytes[i + 3]])
 }
 
-// Boolean number e of a stretch.
-fn flag_at(bytes: &[u8], e: usize) -> bool
-    requires { e < 8 * length bytes.now }
-    ensures { result ≡ eqb (flag_at bytes.now 0 e) 1 }
-{
-    (bytes[e / 8] >> (e % 8)) % 2 == 1
-}
-
 impl Stretch<'_> {
     // The value of point e, counted from 0.
     #[tactic(auto, using(crate::proofs::Laws::stretch_laws))]
@@ -60,7 +54,7 @@ impl Stretch<'_> {
             length: size as u32,
         });
         match self.row.kind {
-            Kind::Boolean => Value::Flag(flag_at(bytes, e)),
+            Kind::Boolean => Value::Flag(is_flag_on(bytes, e)),
             Kind::Int16 => Value::Int16(int16_at(bytes, at)),
             Kind::Int32 => Value::Int32(int32_at(bytes, at)),
             Kind::Float => Value::Float(float_at(bytes, at)),

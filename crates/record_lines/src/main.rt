@@ -5,7 +5,7 @@
 ghost use Rattle.std.specs.Prelude.{◌≡◌, true, ◌<◌};
 ghost use Rattle.points.specs.Table.{float_or_none};
 
-use points::groups::judge;
+use points::groups::{MOST_BYTES, judge};
 use points::table::TABLE_BYTES;
 use records::alarm::Event;
 use records::moment::Moment;
@@ -45,6 +45,7 @@ fn write_line(rt: &impl Print, bytes: &[u8]) -> io::Result<()> {
     println!(rt)
 }
 
+// Runtime and table go through all functions: a struct of the two would be generic in the runtime, and no plainer.
 // Writes the record of a definition in a line. A definition that is refused, as none here is, gives the line "refused".
 fn show_record(
     rt: &impl Print,
@@ -55,8 +56,7 @@ fn show_record(
     let Ok(size) = judge(groups) else {
         return println!(rt; "refused");
     };
-    // A record has at most 250 bytes.
-    let mut part = [0u8; 4096];
+    let mut part = [0u8; MOST_BYTES];
     let lent = &mut part[..size];
     let moment = Moment {
         table,

@@ -15,6 +15,7 @@ use std::io::{self, Read};
 const RECORDS: u32 = 2_000_000;
 
 // 29 August 2007 11:36:52.
+// The same stamp as in record_lines: the two programs share no crate but the libraries.
 const STAMP: Stamp = Stamp {
     month: 8,
     day: 29,
@@ -48,6 +49,7 @@ fn run(part: &mut [u8], table: &mut [u8; TABLE_BYTES], groups: &[u16; 32]) -> u6
 }
 
 // Judges the definition and lends a part of its record's size.
+// It is 0 where there is no record to write: the program prints a sum, and that of no records is 0.
 fn run_judged(buffer: &mut [u8], table: &mut [u8; TABLE_BYTES], groups: &[u16; 32]) -> u64 {
     match judge(groups) {
         Ok(size) if size <= buffer.len() => run(&mut buffer[..size], table, groups),

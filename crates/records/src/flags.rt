@@ -15,6 +15,7 @@ fn low_bits(word: u16, m: u16) -> u8
 
 // The m Booleans from bit `at` of the bytes from `offset` on, as a byte. They stand in at most two bytes of the table, which are
 // joined, shifted to the byte's own alignment and masked.
+// Shifts and masks are the form that the project asks for here.
 fn window(table: &[u8], offset: usize, at: usize, m: u16) -> u8
     requires { (offset + at / 8 + 1 < length table.now) × (m ≤ 8) }
     ensures { result ≡ from_bits (flags table.now offset at m) }

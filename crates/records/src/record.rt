@@ -1,4 +1,5 @@
 // The groups of a record: Booleans repacked, texts cleaned, numbers as they stand in the live table.
+// A slot's part is handed on from writer to writer, a front and a rest of it: a form that the project asks for.
 ghost use Rattle.std.specs.Prelude.{◌≡◌, ◌+◌, ◌<◌, ◌≤◌, length};
 ghost use Rattle.basics.specs.Lists.{tabulate};
 ghost use Rattle.points.specs.declared.groups.Group.TheVariants.{Points};
@@ -42,6 +43,7 @@ fn is_text(kind: Kind) -> bool
 }
 
 // Writes the bytes of the table from place `from` on, as a kind's are captured or polled live, into a part that they fill.
+// Two ways, by the rule's own test: texts are cleaned, all else goes as it stands.
 fn write_values(part: &mut [u8], table: &[u8], kind: Kind, from: usize)
     requires { from + length part.old ≤ length table.now }
     ensures { part.new ≡ tabulate (length part.old) (value_byte kind table.now from) }

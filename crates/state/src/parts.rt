@@ -69,6 +69,7 @@ pub struct State {
 
 impl State {
     // A new gateway's: all flags off, files idle, triggers and slots 0, pointers and requested numbers 0.
+    // Zeros are written out, as the rules state a new gateway: which part is 0 can be read here.
     #[tactic(auto, unfolding(crate::specs::State::fresh_state))]
     pub fn fresh(day_first: bool, unit: u8, firmware: u16, archive_length: u32) -> State
         ensures { result ≡ fresh_state day_first unit firmware archive_length }

@@ -51,6 +51,8 @@ fn are_triggers_good(triggers: &[u16; 10]) -> bool
 }
 
 // Whether an alarm slot's three fields keep their rules, even when it is off.
+// The type is C's number: an enum could not hold one that is against the rule. The tests are joined by `&`, without a branch, since the
+// loop over the slots asks all of them nearly always.
 #[tactic(auto, unfolding(archive::specs::Alarms::good_slot))]
 pub fn is_slot_good(point: u32, kind: u32, transducer: u32) -> bool
     ensures { result ≡ good_slot point kind transducer }
@@ -83,7 +85,7 @@ fn is_definition_good(groups: &[u16; 32]) -> bool
 }
 
 // Whether two definitions are the same. The loop looks at all numbers, so that it runs many at a time: `==` ends at the first that
-// differs, and each call takes a tenth longer with it.
+// differs, and each call takes a tenth longer with it. One index goes for both, as the contract goes by places.
 fn are_same(a: &[u16; 32], b: &[u16; 32]) -> bool
     ensures { result ≡ every 32 (λ k. eqb (get_or a.now k 0) (get_or b.now k 0)) }
 {
@@ -103,6 +105,7 @@ fn is_draft_good(draft: &[u16; 32], laid: &[u16; 32]) -> bool
 }
 
 // Whether all drafted definitions keep their rules, where the laid-out ones do.
+// That these do is asked, since the files' layout has shown it: no type marks good numbers, which C stores as they are.
 fn are_drafts_good(drafts: &Definitions, laid: &Definitions) -> bool
     requires { good_files laid.now.groups ≡ true }
     ensures { result ≡ good_files drafts.now.groups }
@@ -129,6 +132,7 @@ impl Settings {
 }
 
 // Whether no pointer, or no requested number, is over its file's n.
+// A loop and no `zip` and `all`: its contract speaks of every layout, which a closure has no clause for.
 fn are_within(numbers: &[u16; FILES], files: &[File; FILES]) -> bool
     ensures { (l : Layout) → LaidOut l files.now → result ≡ within_limits numbers.now l }
 {
