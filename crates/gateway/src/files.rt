@@ -67,6 +67,7 @@ pub fn define(
         return Err(Refusal::Locked);
     }
     judge(groups)?;
+    // the 32 numbers of a file lie flat, as C stores them
     state.settings.draft.groups[32 * place..32 * place + 32].copy_from_slice(groups);
     state.settings.draft.limits[place] = limit;
     Ok(())

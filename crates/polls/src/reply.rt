@@ -1,3 +1,4 @@
+// Buffer and unit go on as they are, as in `modbus`.
 // Replies, built where they are sent from: bytes go once from where they stand, live texts cleaned on the way, to byte 3 of the reply
 // buffer.
 ghost use Rattle.std.specs.Prelude.{◌≡◌, ◌+◌, ◌≤◌, ◌<◌, length, take, drop};

@@ -143,6 +143,7 @@ fn ask_live(function: Function, address: u16, quantity: u16) -> Result<Asked, Ex
 }
 
 // Function 03.
+// The requested numbers are the state's own array, as C stores them.
 #[tactic(auto, unfolding(crate::specs::Addresses::read_asked))]
 fn ask_read(
     address: u16,

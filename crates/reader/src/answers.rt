@@ -112,7 +112,7 @@ impl PointAnswer {
     ghost use Rattle.std.specs.Prelude.{◌≡◌};
     ghost use Rattle.reader.specs.Answers.{plain_answer};
 
-    // A value that is no text.
+    // A value that is no text, with the number that C knows its kind by.
     fn of_bits(kind: u32, bits: u32) -> PointAnswer
         ensures { result ≡ plain_answer kind bits }
     {

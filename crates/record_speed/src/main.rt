@@ -59,6 +59,7 @@ fn run_judged(buffer: &mut [u8], table: &mut [u8; TABLE_BYTES], groups: &[u16; 3
 
 // The records of one group, which stands at the first place.
 fn run_group(point: u16, count: u16) -> u64 {
+    // longer than any record; what is timed has no heap, as in the library
     let mut buffer = [0u8; 256];
     let mut table = [0u8; TABLE_BYTES];
     let mut groups = [0u16; 32];

@@ -26,6 +26,7 @@ fn text_byte(byte: u8) -> u8
 }
 
 // Copies texts into a part of their length, each byte cleaned. In one walk: copied and then cleaned in place takes 1.4 times as long.
+// One index goes for both, as the invariant goes by places.
 fn copy_texts(part: &mut [u8], texts: &[u8])
     requires { length part.old ≡ length texts.now }
     ensures { part.new ≡ cleaned texts.now }
