@@ -1,38 +1,17 @@
--- Facts about Boolean tests and products that several crates' proofs share. Assumes nothing.
-use mathlib.Core.Path.{◌≡◌, refl, sym}
-use mathlib.Core.Bool.{Bool, true, false, cond, ◌&&◌, ◌||◌, false≢true}
-use mathlib.Core.Logic.{◌⊎◌, inl, inr}
-use Prim.Native.Nat.{ℕ, ◌*◌, ◌^◌, ◌≤◌, ◌<◌}
-use native.Mathlib.Nat.{mul-le-mul, lt_of_le_of_lt}
-use native.Mathlib.Omega.{arith}
-use borrow.Author.Tests.{eq-eqb, eqb-true, eqb-false, leb-true, ltb-true, ltb-false}
-use lib.Dec.{eqb, leb, ltb, lit<}
-use mir.Val.{bool_byte}
+-- Facts about Boolean tests that several crates' proofs share. Assumes nothing.
+use mathlib.Core.Path.{◌≡◌, refl}
+use mathlib.Core.Bool.{Bool, true, false, cond}
+use Prim.Native.Nat.{ℕ, ◌≤◌}
+use borrow.Author.Tests.{leb-true}
+use lib.Dec.{eqb, leb}
 use Rattle.basics.specs.Numbers.{within}
 use Rattle.basics.specs.Card.{card_of}
 use Rattle.basics.specs.declared.card.Refusal.{Refusal}
 use Rattle.basics.specs.declared.card.Refusal.TheVariants.{Memory, Foreign, Table, Clock, File, Locked, Group, Long, Trigger, Running, Room, Alarm, Reply, Garbled, Empty, Beyond}
-
-pub eqb_same : (n : ℕ) → eqb n n ≡ true
-eqb_same n = eq-eqb n n refl
-
--- the two halves of a conjunction that holds
-pub and_left : (a b : Bool) → (a && b) ≡ true → a ≡ true
-and_left true b e = refl
-and_left false b e = e
-
-pub and_right : (a b : Bool) → (a && b) ≡ true → b ≡ true
-and_right true b e = e
-and_right false b e = absurd (false≢true e)
-
--- the two halves of a disjunction that does not hold
-pub or_left : (a b : Bool) → (a || b) ≡ false → a ≡ false
-or_left true b e = e
-or_left false b e = refl
-
-pub or_right : (a b : Bool) → (a || b) ≡ false → b ≡ false
-or_right true b e = absurd (false≢true (sym e))
-or_right false b e = e
+-- a number is itself by its test; the two halves of a conjunction that holds; two numbers, one less or not, and equal or not
+pub use store.Seg.{eqb_same}
+pub use Rattle.std.specs.Cmp.{first_so as and_left, second_so as and_right}
+pub use Rattle.std.proofs.lemmas.Bool.{cases_lt as lt-or-le, cases_eq as eq-or-not}
 
 -- what holds of both ways of a test holds of it
 pub by_cond : {A : Type 0} (Q : A → Type 0) (b : Bool) (x y : A) → (b ≡ true → Q x) → (b ≡ false → Q y) → Q (cond b x y)
@@ -42,30 +21,6 @@ by_cond Q false x y p q = q refl
 -- what a range test that holds gives
 pub within-inside : (lo hi x : ℕ) → within lo hi x ≡ true → (lo ≤ x) × (x ≤ hi)
 within-inside lo hi x holds = (leb-true lo x (and_left (leb lo x) (leb x hi) holds), leb-true x hi (and_right (leb lo x) (leb x hi) holds))
-
--- a product of two numbers of 16 bits
-pub product-fits : (a b : ℕ) → a < 2 ^ 16 → b < 2 ^ 16 → a * b < 2 ^ 32
-product-fits a b ha hb = lt_of_le_of_lt (mul-le-mul {n₂ = 65535} {m₂ = 65535} (omega arith) (omega arith)) (lit< tt)
-
--- one of two numbers is less, or not
-pub lt-or-le : (a b : ℕ) → (a < b) ⊎ (b ≤ a)
-lt-or-le a b = go (ltb a b) refl
-  where
-    go : (t : Bool) → ltb a b ≡ t → (a < b) ⊎ (b ≤ a)
-    go true e = inl (ltb-true a b e)
-    go false e = inr (ltb-false a b e)
-
-pub eq-or-not : (a b : ℕ) → (a ≡ b) ⊎ (a ≡ b → ⊥)
-eq-or-not a b = go (eqb a b) refl
-  where
-    go : (t : Bool) → eqb a b ≡ t → (a ≡ b) ⊎ (a ≡ b → ⊥)
-    go true e = inl (eqb-true a b e)
-    go false e = inr (eqb-false a b e)
-
--- a Boolean as a byte
-pub bool-byte : (b : Bool) → bool_byte b ≡ cond b 1 0
-bool-byte true = refl
-bool-byte false = refl
 
 -- no refusal is told as done
 pub refused-number : (r : Refusal) → eqb (card_of r).number 0 ≡ false

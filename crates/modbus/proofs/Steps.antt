@@ -1,5 +1,4 @@
 -- Laws of the CRC by a table of steps, for any numbers. Assumes nothing.
---     xor_assoc       exclusive or of three numbers
 --     shifts-pass     n shifts take the bits above the n lowest down as they are
 --     crc_steps       the table by its rule: entry k is k shifted eight times
 --     step-at         the rule at each entry of a table that is this one
@@ -11,40 +10,13 @@ use mathlib.Core.Bool.{Bool, true, false, cond}
 use Prim.Native.Nat.{ℕ, zero, suc, ◌+◌, ◌*◌, ◌/◌, ◌%◌, ◌^◌, ◌<◌}
 use native.Mathlib.Nat.{mul-one, mul_comm, mul_assoc, pow-suc, div-add-mod'}
 use native.Mathlib.Omega.{arith}
-use lib.Arith.{bin_ind}
-use lib.Bits.{bit_xor, differ, xor_step, xor_shr, xor_mod, xor_shifted}
+use lib.Bits.{bit_xor, xor_assoc, xor_shr, xor_mod, xor_shifted}
 use lib.Dec.{eqb}
 use lib.ListN.{get_or}
 use Rattle.basics.specs.Lists.{tabulate}
 use Rattle.basics.proofs.Lists.{get_or-tabulate}
 use Rattle.modbus.specs.Crc.{crc_shift, crc_shifts, crc_byte}
 use Rattle.modbus.proofs.Laws.{shifts_fit}
-
--- ---- exclusive or of three numbers: of their lowest bits, then of all
-bits-assoc : (x y z : ℕ) → x < 2 → y < 2 → z < 2 → differ (bit_xor x y) z ≡ differ x (bit_xor y z)
-bits-assoc zero zero z hx hy hz = refl
-bits-assoc zero (suc zero) zero hx hy hz = refl
-bits-assoc zero (suc zero) (suc zero) hx hy hz = refl
-bits-assoc zero (suc zero) (suc (suc z)) hx hy hz = absurd (omega arith)
-bits-assoc zero (suc (suc y)) z hx hy hz = absurd (omega arith)
-bits-assoc (suc zero) zero z hx hy hz = refl
-bits-assoc (suc zero) (suc zero) zero hx hy hz = refl
-bits-assoc (suc zero) (suc zero) (suc zero) hx hy hz = refl
-bits-assoc (suc zero) (suc zero) (suc (suc z)) hx hy hz = absurd (omega arith)
-bits-assoc (suc zero) (suc (suc y)) z hx hy hz = absurd (omega arith)
-bits-assoc (suc (suc x)) y z hx hy hz = absurd (omega arith)
-
-pub xor_assoc : (a b c : ℕ) → bit_xor (bit_xor a b) c ≡ bit_xor a (bit_xor b c)
-xor_assoc a =
-    bin_ind (λ (n : ℕ). (b c : ℕ) → bit_xor (bit_xor n b) c ≡ bit_xor n (bit_xor b c)) (λ b c. refl)
-    (λ n halves b c.
-    xor_step (bit_xor n b) c
-    ∙ ap₂ (λ (x y : ℕ). x * 2 + y)
-    (ap (λ x. bit_xor x (c / 2)) (xor_shr n b 1) ∙ halves (b / 2) (c / 2) ∙ ap (λ x. bit_xor (n / 2) x) (sym (xor_shr b c 1)))
-    (ap (λ x. differ x (c % 2)) (xor_mod n b 1) ∙ bits-assoc (n % 2) (b % 2) (c % 2) (omega arith) (omega arith) (omega arith)
-    ∙ ap (λ x. differ (n % 2) x) (sym (xor_mod b c 1)))
-    ∙ sym (xor_step n (bit_xor b c)))
-    a
 
 -- ---- the bits above the n lowest go down as they are
 shift_passes : (h m : ℕ) → crc_shift (bit_xor (h * 2) m) ≡ bit_xor h (crc_shift m)

@@ -7,6 +7,7 @@ use crate::crc_steps::CRC_STEPS;
 // The CRC of a slice of any length, its low and its high byte kept apart. Each byte of the slice takes one step: the table has what eight
 // shifts make of the low byte with that byte exclusive-ored in, and the eight shifts move the high byte down as it is. The two bytes are
 // in machine words, so that each has a whole register (docs/DECISIONS.md, D138).
+#[tactic(auto, unfolding(crate::specs::Crc::crc_from, crate::specs::Crc::crc_of, crate::specs::Crc::crc_shifts, crate::specs::Crc::crc_shift, basics::specs::Lists::tabulate))]
 pub fn crc_of(s: &[u8]) -> u16
     ensures { result ≡ crc_of s.now }
 {

@@ -1,4 +1,4 @@
-// Frames of Modbus RTU, built where they are sent from: at the start of a lent reply buffer.
+// Frames of Modbus RTU, built where they are sent from: at the start of the reply buffer that C lends; so what is answered is a length.
 ghost use Rattle.std.specs.Prelude.{◌≡◌, ◌+◌, ◌≤◌, length, take, drop};
 ghost use Rattle.basics.specs.Lists.{pasted};
 ghost use Rattle.modbus.specs.Crc.{with_crc};
@@ -76,8 +76,9 @@ fn write_crc(buffer: &mut [u8], n: usize)
 }
 
 // Makes a read reply of the bytes that stand from byte 3 on, and answers its length. It carries the function that asked.
-// Function and code are bytes, as a frame has them: an exception answers functions too that no enum has, and an enum would ask more of
-// callers. Buffer, unit and function go on as they are: a struct of them would be built for one call and taken apart there.
+// The function is a byte: the reply to a poll of live points carries the request's own, of which a Function would be made again. Buffer,
+// unit and function go on as three: C lends the first, the state has the second and the request the third. A frame has at most 250 bytes
+// of data, which is asked: a type for such a size would be made for one call.
 pub fn close_read_reply(buffer: &mut [u8], unit: u8, function: u8, size: usize) -> usize
     requires { (size ≤ 250) × (size + 5 ≤ length buffer.old) }
     ensures { Sent (read_reply_by unit function (take size (drop 3 buffer.old)))
@@ -99,6 +100,8 @@ fn high_bit_set(function: u8) -> u8
 }
 
 // Writes an exception, and answers its length.
+// The function is a byte, since one that no Function names is answered too. The code is a byte as well: an Exception names three of the
+// standard's codes, and this function takes any of them (docs/DECISIONS.md, D158).
 pub fn write_exception(buffer: &mut [u8], unit: u8, function: u8, code: u8) -> usize
     requires { 5 ≤ length buffer.old }
     ensures { Sent (exception_reply unit function code) buffer.old result buffer.new }
