@@ -56,7 +56,7 @@ table_with i bs = replicate i 0 ++ (bs ++ replicate (table_bytes - (i + length b
 
 -- what a group of a table captures
 abbrev group_bytes : List ℕ → ℕ → ℕ → List ℕ
-group_bytes table p n = captured_group table (group_of p n) p n
+group_bytes table p n = captured_group table (group_of p n)
 
 -- a whole number: 0 and its size, or 1 and its size where it is below 0
 abbrev shown_number : ℤ → List ℕ

@@ -1,12 +1,14 @@
 -- Laws of the table's lookup and of groups. Assumes nothing.
 --     lookup-sound          what a computed test says of every row holds of the row that the lookup gives
---     boolean-inside, boolean-is, float-inside, float_is    a point that is a Boolean or 0, or a float or 0, and is not 0: its bounds and its row
---     boolean_row_lem, boolean-found, boolean_point_lem    a Boolean point and its row
+--     boolean-inside, float-inside, float_is    a point that is a Boolean or 0, or a float or 0, and is not 0: its bounds, and a float's row
+--     boolean_point_lem     Boolean number i is a Boolean point
 --     float_size            a float has four bytes
+--     group-inside, group-sound, group_again    what is known of a group's points
 --     group-of-run, group-of-one    points of a row that are a group
 --     group-size-small     a group adds at most the live table's bytes
---     judged-done, judged-good    a definition that is not refused
+--     judged-done, judged-good, good_definition    a definition that is not refused
 --     rest-zero, rest-unused    places of zeros behind those that the code walks
+--     walk_laws             what the walks along the places need of one more place
 use mathlib.Core.Path.{◌≡◌, refl, sym, ap, ◌∙◌, subst}
 use mathlib.Core.List.{List, [], ◌∷◌}
 use mathlib.Core.Bool.{Bool, true, false, cond, not, ◌&&◌}
@@ -23,13 +25,15 @@ use Rattle.basics.proofs.Tests.{and_left, and_right}
 use Rattle.points.specs.declared.table.Kind.{Kind}
 use Rattle.points.specs.declared.table.Kind.TheVariants.{Boolean, Int16, Text8, Int32, Float, Text16}
 use Rattle.points.specs.declared.table.Row.{Row}
+use Rattle.points.specs.declared.table.Run.{Run}
 use Rattle.std.specs.Prelude.{Option, Some, None, Ok, Err, find}
+use Rattle.std.proofs.lemmas.List.{length-take-le}
 use Rattle.basics.specs.declared.card.Refusal.TheVariants as refusal
 use Rattle.basics.specs.Card.{card_told}
 use Rattle.points.specs.declared.groups.Group.{Group}
 use Rattle.points.specs.declared.groups.Group.TheVariants.{Unused, Points, Bad}
 use Rattle.points.specs.Table.{table_bytes, rows, in_row, row_of, points_size, boolean_row, float_row, boolean_point, boolean_points, in_row_or_none, boolean_or_none, float_or_none}
-use Rattle.points.specs.Groups.{unused, ends_in_row, points_from, group_of, group_size, is_bad, first_point_at, count_at, group_at, groups_size, first_bad, record_size, judged, judged_card, ZeroFrom}
+use Rattle.points.specs.Groups.{unused, ends_in_row, run, points_from, group_of, group_size, is_bad, first_point_at, count_at, group_at, groups_size, first_bad, record_size, judged, judged_card, ZeroFrom}
 
 -- a test passes at every row of a list
 abbrev pub every_row : (Row → Bool) → List Row → Bool
@@ -102,33 +106,42 @@ pub record Grouped (r : Row) (p n : ℕ) : Type 0 where
   pub some : 1 ≤ n
   pub ends : p + n ≤ r.last + 1
 
--- the row of a group of points is the one that the lookup gives; there is a point, and they end in the row
-pub group-inside : (p n : ℕ) (r : Row) → group_of p n ≡ Points r → (row_of p ≡ Some r) × ((leb 1 n && ends_in_row r p n) ≡ true)
+-- the points of a group are those that were asked for, and their row is the one that the lookup gives; there is a point, and they end in it
+pub group-inside : (p n : ℕ) (q : Run) → group_of p n ≡ Points q →
+    (q ≡ run q.row p n) × (row_of p ≡ Some q.row) × ((leb 1 n && ends_in_row q.row p n) ≡ true)
 unfolding group_of
-group-inside p n r e = go (unused p n) e
+group-inside p n q e = go (unused p n) e
   where
-    inside : (x : Row) → row_of p ≡ Some x → (b : Bool) → (leb 1 n && ends_in_row x p n) ≡ b → cond b (Points x) Bad ≡ Points r →
-        (row_of p ≡ Some r) × ((leb 1 n && ends_in_row r p n) ≡ true)
-    inside x f true t q = let same : x ≡ r = cc in subst (λ y. (row_of p ≡ Some y) × ((leb 1 n && ends_in_row y p n) ≡ true)) same (f, t)
-    inside x f false t q = let z : ◌≡◌ {A = ℕ} 0 1 = cc in absurd (omega arith)
+    inside : (x : Row) → row_of p ≡ Some x → (b : Bool) → (leb 1 n && ends_in_row x p n) ≡ b → cond b (Points (run x p n)) Bad ≡ Points q →
+        (q ≡ run q.row p n) × (row_of p ≡ Some q.row) × ((leb 1 n && ends_in_row q.row p n) ≡ true)
+    inside x f true t e =
+        let same : run x p n ≡ q = cc in
+        subst (λ y. (y ≡ run y.row p n) × (row_of p ≡ Some y.row) × ((leb 1 n && ends_in_row y.row p n) ≡ true)) same (refl, f, t)
+    inside x f false t e = let z : ◌≡◌ {A = ℕ} 0 1 = cc in absurd (omega arith)
 
-    looked : (f : Option Row) → row_of p ≡ f → points_from f p n ≡ Points r → (row_of p ≡ Some r) × ((leb 1 n && ends_in_row r p n) ≡ true)
-    looked None f q = let z : ◌≡◌ {A = ℕ} 0 1 = cc in absurd (omega arith)
-    looked (Some x) f q = inside x f (leb 1 n && ends_in_row x p n) refl q
+    looked : (f : Option Row) → row_of p ≡ f → points_from f p n ≡ Points q →
+        (q ≡ run q.row p n) × (row_of p ≡ Some q.row) × ((leb 1 n && ends_in_row q.row p n) ≡ true)
+    looked None f e = let z : ◌≡◌ {A = ℕ} 0 1 = cc in absurd (omega arith)
+    looked (Some x) f e = inside x f (leb 1 n && ends_in_row x p n) refl e
 
-    go : (b : Bool) → cond b Unused (points_from (row_of p) p n) ≡ Points r → (row_of p ≡ Some r) × ((leb 1 n && ends_in_row r p n) ≡ true)
-    go true q = let z : ◌≡◌ {A = ℕ} 0 1 = cc in absurd (omega arith)
-    go false q = looked (row_of p) refl q
+    go : (b : Bool) → cond b Unused (points_from (row_of p) p n) ≡ Points q →
+        (q ≡ run q.row p n) × (row_of p ≡ Some q.row) × ((leb 1 n && ends_in_row q.row p n) ≡ true)
+    go true e = let z : ◌≡◌ {A = ℕ} 0 1 = cc in absurd (omega arith)
+    go false e = looked (row_of p) refl e
 
-pub group-sound : (p n : ℕ) (r : Row) → group_of p n ≡ Points r → Grouped r p n
+pub group-sound : (p n : ℕ) (r : Row) → group_of p n ≡ Points (run r p n) → Grouped r p n
 unfolding ends_in_row
 group-sound p n r e =
-    let inside = group-inside p n r e in
+    let inside = group-inside p n (run r p n) e in
     record {
-      looked = lookup-sound p r inside.0;
-      some = leb-true 1 n (and_left (leb 1 n) (leb (p + n) (r.last + 1)) inside.1);
-      ends = leb-true (p + n) (r.last + 1) (and_right (leb 1 n) (leb (p + n) (r.last + 1)) inside.1);
+      looked = lookup-sound p r inside.1;
+      some = leb-true 1 n (and_left (leb 1 n) (leb (p + n) (r.last + 1)) inside.2);
+      ends = leb-true (p + n) (r.last + 1) (and_right (leb 1 n) (leb (p + n) (r.last + 1)) inside.2);
     }
+
+-- the points of a group are that group
+pub group_again : (p n : ℕ) (q : Run) → group_of p n ≡ Points q → group_of q.point q.count ≡ Points q
+group_again p n q e = ap (λ x. group_of x.point x.count) (group-inside p n q e).0 ∙ e
 
 -- more points take no fewer bytes
 pub points-size-mono : (r : Row) (m n : ℕ) → m ≤ n → points_size r m ≤ points_size r n
@@ -139,17 +152,19 @@ points-size-mono r m n h = go (eqb r.size 0)
     go true = omega arith
     go false = mul-le-mul_right r.size h
 
-pub group-size-small : (p n : ℕ) → group_size (group_of p n) n ≤ table_bytes
+pub group-size-small : (p n : ℕ) → group_size (group_of p n) ≤ table_bytes
 group-size-small p n = go (group_of p n) refl
   where
-    go : (g : Group) → group_of p n ≡ g → group_size g n ≤ table_bytes
+    go : (g : Group) → group_of p n ≡ g → group_size g ≤ table_bytes
     go Unused e = omega arith
     go Bad e = omega arith
-    go (Points r) e =
-        let ok = group-sound p n r e in
+    go (Points q) e =
+        let same = (group-inside p n q e).0 in
+        let r = q.row in
+        let ok = group-sound p n r (e ∙ ap Points same) in
         let span : n ≤ r.last + 1 - r.first = omega (arith, ok.looked.from, ok.ends) in
         let most = points-size-mono r n (r.last + 1 - r.first) span in
-        omega (arith, ok.looked.within, most)
+        omega (arith, ok.looked.within, most, ap (λ x. points_size x.row x.count) same)
 
 -- the values of a group of points lie within the live table
 pub values-within : (r : Row) (p n : ℕ) → Grouped r p n → (r.size ≡ 0 → ⊥) → r.offset + (p - r.first) * r.size + n * r.size ≤ table_bytes
@@ -165,16 +180,16 @@ values-within r p n ok wide =
 flags_inside : Row → Bool
 flags_inside r = cond (eqb r.size 0) (ltb (r.offset + (r.last + 1 - r.first + 7) / 8) table_bytes) true
 
-pub flags-within : (r : Row) (p n i : ℕ) → group_of p n ≡ Points r → r.size ≡ 0 → i < n → r.offset + (p - r.first + i) / 8 + 1 < table_bytes
+pub flags-within : (r : Row) (p n i : ℕ) → group_of p n ≡ Points (run r p n) → r.size ≡ 0 → i < n → r.offset + (p - r.first + i) / 8 + 1 < table_bytes
 unfolding rows row_of flags_inside
 flags-within r p n i e bits more =
     let ok = group-sound p n r e in
-    let inside = (found_in flags_inside p r rows refl (group-inside p n r e).0).0 in
+    let inside = (found_in flags_inside p r rows refl (group-inside p n (run r p n) e).1).0 in
     let room : r.offset + (r.last + 1 - r.first + 7) / 8 < table_bytes = ltb-true _ _ (simp bits at inside) in
     omega (arith, ok.looked.from, ok.ends, room)
 
 -- points of a row, at least one and none past its end, are a group
-pub group-of-run : (p n : ℕ) (r : Row) → row_of p ≡ Some r → 1 ≤ n → ends_in_row r p n ≡ true → group_of p n ≡ Points r
+pub group-of-run : (p n : ℕ) (r : Row) → row_of p ≡ Some r → 1 ≤ n → ends_in_row r p n ≡ true → group_of p n ≡ Points (run r p n)
 unfolding group_of unused
 group-of-run p n r e some ends =
     let ok = lookup-sound p r e in
@@ -182,7 +197,7 @@ group-of-run p n r e some ends =
     simp (used, e, le-leb 1 n some, ends)
 
 -- a point of a row is a group of one
-pub group-of-one : (p : ℕ) (r : Row) → row_of p ≡ Some r → group_of p 1 ≡ Points r
+pub group-of-one : (p : ℕ) (r : Row) → row_of p ≡ Some r → group_of p 1 ≡ Points (run r p 1)
 unfolding ends_in_row
 group-of-one p r e = group-of-run p 1 r e (omega arith) (le-leb (p + 1) (r.last + 1) (omega (arith, (lookup-sound p r e).to)))
 
@@ -194,33 +209,12 @@ in_row_lem r p ok some =
     let both : (leb r.first p && leb p r.last) ≡ true = simp (ne_eqb p 0 some) at ok in
     (leb-true _ _ (and_left (leb r.first p) (leb p r.last) both), leb-true _ _ (and_right (leb r.first p) (leb p r.last) both))
 
--- a Boolean point, and its row
+-- a Boolean point
 pub boolean-inside : (p : ℕ) → boolean_or_none p ≡ true → (p ≡ 0 → ⊥) → (1801 ≤ p) × (p ≤ 1928)
 unfolding boolean_or_none
 boolean-inside p ok some = in_row_lem boolean_row p ok some
 
-boolean-looked : (p : ℕ) → 1801 ≤ p → p ≤ 1928 → row_of p ≡ Some boolean_row
-unfolding row_of rows in_row
-boolean-looked p from to = simp (le-leb 1801 p from, le-leb p 1928 to)
-
-pub boolean-is : (p : ℕ) → boolean_or_none p ≡ true → (p ≡ 0 → ⊥) → row_of p ≡ Some boolean_row
-boolean-is p ok some = let inside = boolean-inside p ok some in boolean-looked p inside.0 inside.1
-
--- a Boolean point is in the row that starts with the table, and is one of its 128
-pub boolean_row_lem : (p : ℕ) (r : Row) → boolean_or_none p ≡ true → row_of p ≡ Some r →
-    (r.offset ≡ 0) × (r.first ≤ p) × (p - r.first < boolean_points)
-boolean_row_lem p r ok e =
-    let seen = lookup-sound p r e in
-    let some : p ≡ 0 → ⊥ = λ z. omega (arith, seen.named, seen.from, z) in
-    let inside = boolean-inside p ok some in
-    let found = boolean-is p ok some in
-    let same : boolean_row ≡ r = cc (found, e) in
-    subst (λ x. (x.offset ≡ 0) × (x.first ≤ p) × (p - x.first < boolean_points)) same (refl, inside.0, omega (arith, inside.0, inside.1))
-
--- Boolean number i is in it
-pub boolean-found : (i : ℕ) → i < boolean_points → row_of (boolean_point i) ≡ Some boolean_row
-boolean-found i below = boolean-looked (boolean_point i) (omega (arith, below)) (omega (arith, below))
-
+-- Boolean number i is a Boolean point
 pub boolean_point_lem : (i : ℕ) → i < boolean_points → boolean_or_none (boolean_point i) ≡ true
 unfolding boolean_or_none in_row
 boolean_point_lem i below =
@@ -249,9 +243,9 @@ float_is p ok some =
     = λ i before. behind (get_or rows i float_row) p (omega (arith, from, before)) in
     simp (past 0 (omega arith), past 1 (omega arith), past 2 (omega arith), past 3 (omega arith), here)
 
-pub float_size : (p : ℕ) → float_or_none p ≡ true → (p ≡ 0 → ⊥) → group_size (group_of p 1) 1 ≡ 4
+pub float_size : (p : ℕ) → float_or_none p ≡ true → (p ≡ 0 → ⊥) → group_size (group_of p 1) ≡ 4
 unfolding points_size
-float_size p ok some = ap (λ g. group_size g 1) (group-of-one p float_row (float_is p ok some))
+float_size p ok some = ap group_size (group-of-one p float_row (float_is p ok some))
 
 -- the total of the first k places
 pub groups-size-small : (gs : List ℕ) (k : ℕ) → groups_size gs k ≤ table_bytes * k
@@ -267,7 +261,7 @@ groups-size-mono gs k n h =
     le_ind (λ (m : ℕ). groups_size gs k ≤ groups_size gs m) (le_refl (groups_size gs k)) (λ m l so_far. omega arith) n h
 
 -- the bytes of one more place
-pub groups-size-next : (gs : List ℕ) (k : ℕ) → groups_size gs (k + 1) ≡ groups_size gs k + group_size (group_at gs k) (count_at gs k)
+pub groups-size-next : (gs : List ℕ) (k : ℕ) → groups_size gs (k + 1) ≡ groups_size gs k + group_size (group_at gs k)
 unfolding groups_size
 groups-size-next gs k = rw add-one refl
 
@@ -311,6 +305,15 @@ judged-good gs size is =
     let same : record_size gs ≡ size = cc (both.0, is) in
     subst (λ n. GoodDefinition gs n) same both.1
 
+-- what is lent for the record of a good definition, out of a longer part
+pub good_sized : (gs : List ℕ) (size : ℕ) → judged gs ≡ Ok size → size ≡ record_size gs
+good_sized gs size is = (judged-good gs size is).sized
+
+pub good_most : (gs : List ℕ) (size : ℕ) → judged gs ≡ Ok size → size ≤ 250
+good_most gs size is = (judged-good gs size is).most
+
+pub ruleset good_definition = (good_sized, good_most, length-take-le)
+
 -- ---- the places that are not walked
 pub rest-zero : (gs : List ℕ) (k n : ℕ) → length gs ≡ k + n → ZeroFrom (take n (drop k gs)) 0 → ZeroFrom gs k
 rest-zero gs k n long none i behind =
@@ -329,3 +332,6 @@ module _ (gs : List ℕ) (used : ℕ) (none : ZeroFrom gs (2 * used)) where
   rest-unused k behind =
       le_ind (λ j. (groups_size gs j ≡ groups_size gs used) × (first_bad gs used ≡ 0 → first_bad gs j ≡ 0)) (refl, λ same. same)
       (λ j later so_far. (rw (unused-at j later) (omega (arith, so_far.0)), λ start. rw (so_far.1 start, unused-at j later) refl)) k behind
+
+-- what a walk along the places of a definition needs: what one more place adds, and that sums of sizes stay small
+pub ruleset walk_laws = (group-size-small, groups-size-small, groups-size-next, no-bad-more)

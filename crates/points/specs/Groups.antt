@@ -5,6 +5,7 @@ use Rattle.basics.specs.declared.card.Refusal.{Refusal}
 use Rattle.basics.specs.declared.card.Refusal.TheVariants as refusal
 use Rattle.basics.specs.Card.{Card, card_told, first_of}
 use Rattle.points.specs.declared.table.Row.{Row}
+use Rattle.points.specs.declared.table.Run.{Run}
 use Rattle.points.specs.declared.groups.Group.{Group}
 use Rattle.points.specs.declared.groups.Group.TheVariants.{Unused, Points, Bad}
 use Rattle.points.specs.Table.{row_of, points_size}
@@ -17,25 +18,29 @@ unused p n = eqb p 0 && eqb n 0
 unfoldable pub ends_in_row : Row → ℕ → ℕ → Bool
 ends_in_row r p n = leb (p + n) (r.last + 1)
 
+-- n points of row r, from p on
+abbrev pub run : Row → ℕ → ℕ → Run
+run r p n = record { row = r; point = p; count = n }
+
 -- n points from p on, where the row of p has been looked up: at least one, all in that row
 abbrev pub points_from : Option Row → ℕ → ℕ → Group
 points_from None p n = Bad
-points_from (Some r) p n = cond (leb 1 n && ends_in_row r p n) (Points r) Bad
+points_from (Some r) p n = cond (leb 1 n && ends_in_row r p n) (Points (run r p n)) Bad
 
 -- what a group is: unused, or points that are all in one row, or bad
 unfoldable pub group_of : ℕ → ℕ → Group
 group_of p n = cond (unused p n) Unused (points_from (row_of p) p n)
 
--- the bytes that a group of n points adds to a record
-abbrev pub group_size : Group → ℕ → ℕ
-group_size Unused n = 0
-group_size Bad n = 0
-group_size (Points r) n = points_size r n
+-- the bytes that a group adds to a record
+abbrev pub group_size : Group → ℕ
+group_size Unused = 0
+group_size Bad = 0
+group_size (Points q) = points_size q.row q.count
 
 abbrev pub is_bad : Group → Bool
 is_bad Unused = Bool.false
 is_bad Bad = Bool.true
-is_bad (Points r) = Bool.false
+is_bad (Points q) = Bool.false
 
 -- the first point and the number of points at place g of a definition, counted from 0
 abbrev pub first_point_at : List ℕ → ℕ → ℕ
@@ -50,7 +55,7 @@ group_at gs g = group_of (first_point_at gs g) (count_at gs g)
 -- the bytes of the groups at the first k places
 unfoldable pub groups_size : List ℕ → ℕ → ℕ
 groups_size gs zero = 0
-groups_size gs (suc k) = groups_size gs k + group_size (group_at gs k) (count_at gs k)
+groups_size gs (suc k) = groups_size gs k + group_size (group_at gs k)
 
 -- the place of the first bad group among the first k, counted from 1; 0 where there is none
 unfoldable pub first_bad : List ℕ → ℕ → ℕ

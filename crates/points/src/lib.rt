@@ -5,4 +5,4 @@ pub mod groups;
 pub mod table;
 
 pub use groups::Group;
-pub use table::{Kind, Row};
+pub use table::{Kind, Row, Run};

@@ -1,6 +1,6 @@
 // The six rows of the live table.
 ghost use Rattle.std.specs.Prelude.{◌≡◌, ◌*◌, ◌<◌, eqb, length};
-ghost use Rattle.points.specs.Table.{in_row, row_of, points_size, flag_at, boolean_or_none, float_or_none};
+ghost use Rattle.points.specs.Table.{in_row, row_of, is_bits, points_size, flag_at, boolean_or_none, float_or_none};
 ghost use Rattle.points.specs.Groups.{ends_in_row};
 
 // What a row's points are.
@@ -15,7 +15,8 @@ pub enum Kind {
 }
 
 // The points `first` to `last` take `size` bytes each, 0 standing for one bit, from byte `offset` of the table on.
-// One constant table of such rows is a form that the project asks for; 0 says in the row's own numbers that a point is one bit.
+// One constant table of such rows is a form that the project asks for, and a Boolean's size is 0 in it, as the rule has it; `is_bits` is the
+// one test of that.
 #[derive(Clone, Copy, Debug, PartialEq, Eq)]
 pub struct Row {
     pub kind: Kind,
@@ -99,24 +100,41 @@ impl Row {
         ROWS.iter().copied().find(|row| row.holds(point))
     }
 
-    // Whether `count` points from a point of the row on end in it. The sums are wider than 16 bits.
-    #[tactic(auto, unfolding(crate::specs::Groups::ends_in_row))]
-    pub fn ends(self, point: u16, count: u16) -> bool
-        ensures { result ≡ ends_in_row self point count }
+    // Whether a point of the row is one bit.
+    pub fn is_bits(self) -> bool
+        ensures { result ≡ is_bits self }
     {
-        u32::from(point) + u32::from(count) <= u32::from(self.last) + 1
+        self.size == 0
+    }
+}
+
+// Points of one row: `count` of them, from `point` on.
+#[derive(Clone, Copy, Debug, PartialEq, Eq)]
+pub struct Run {
+    pub row: Row,
+    pub point: u16,
+    pub count: u16,
+}
+
+impl Run {
+    // Whether the points end in their row, where the first of them is in it. The sums are wider than 16 bits.
+    #[tactic(auto, unfolding(crate::specs::Groups::ends_in_row))]
+    pub fn ends(self) -> bool
+        ensures { result ≡ ends_in_row self.row self.point self.count }
+    {
+        u32::from(self.point) + u32::from(self.count) <= u32::from(self.row.last) + 1
     }
 
-    // The bytes that `count` points of the row take in a record.
+    // The bytes that the points take in a record.
     #[tactic(auto, unfolding(crate::specs::Table::points_size))]
-    pub fn bytes(self, count: u16) -> usize
-        ensures { result ≡ points_size self count }
+    pub fn bytes(self) -> usize
+        ensures { result ≡ points_size self.row self.count }
     {
-        let n = usize::from(count);
-        if self.size == 0 {
+        let n = usize::from(self.count);
+        if self.row.is_bits() {
             return (n + 7) / 8;
         }
-        n * usize::from(self.size)
+        n * usize::from(self.row.size)
     }
 }
 

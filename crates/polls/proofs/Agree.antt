@@ -21,10 +21,9 @@ use Rattle.std.specs.Prelude.{Result, Ok, Err}
 use Rattle.polls.specs.declared.request.Part.TheVariants.{Whole, Stamp}
 use Rattle.polls.specs.declared.request.Asked.{Asked}
 use Rattle.polls.specs.declared.request.Asked.TheVariants.{Record, Registers, LivePoints, SetRequested}
-use Rattle.polls.specs.View.{View, archive_view, view_of}
-use Rattle.polls.specs.declared.view.View as code
+use Rattle.polls.specs.View.{View, archive_view, limit_in}
 use Rattle.archive.specs.Ring.{record_in}
-use Rattle.archive.specs.Lent.{LaidOut}
+use Rattle.archive.specs.Lent.{LaidOut, file_in}
 use Rattle.archive.specs.declared.layout.File.{File}
 use Rattle.archive.proofs.Layouts.{size-within, file-inside}
 use Rattle.modbus.specs.Frame.{Sent}
@@ -95,8 +94,8 @@ module _ (v w : View) (agree : Agree v w) where
       ap₂ (λ u bs. read_reply u (part_of part bs)) agree.unit (agree.reads f passed.file k passed.first passed.last)
   answer-same frame (Ok (Registers i q)) passed =
       ap₂ read_reply agree.unit (registers-by v w i q (λ j below. register-same j (omega (arith, below, passed))))
-  answer-same frame (Ok (LivePoints r p q)) passed =
-      ap₂ (λ u t. read_reply_by u (function_of frame) (captured_points t r p q)) agree.unit agree.table
+  answer-same frame (Ok (LivePoints q)) passed =
+      ap₂ (λ u t. read_reply_by u (function_of frame) (captured_points t q.row q.point q.count)) agree.unit agree.table
   answer-same frame (Ok (SetRequested f x)) passed = refl
 
   asks-same : (frame : List ℕ) → asked_of v frame ≡ asked_of w frame
@@ -119,29 +118,42 @@ module _ (v w : View) (agree : Agree v w) where
       left unit new old = cond (is_heard frame && (eqb (unit_of frame) unit || eqb (unit_of frame) 0)) new old
 
 -- ---- files that are laid out
--- the code's view of them agrees with the view of their layout
-pub laid_agrees : (v : code.View) (l : Layout) → LaidOut l v.files.now →
-    Agree (view_of v) (archive_view v.unit l v.pointers.now v.requested.now v.archive.now v.table.now)
-laid_agrees v l laid =
-    record {
-      unit = refl;
-      limit = λ f below. ap (λ x. x.limit) (laid.each f below);
-      pointer = λ f below. refl;
-      requested = refl;
-      reads = λ f below k first last. ap (λ x. record_in v.archive.now x.from x.size k) (laid.each f below);
-      table = refl;
-    }
+-- as the code's view has them
+abbrev pub files_view : ℕ → List File → List ℕ → List ℕ → List ℕ → List ℕ → View
+files_view unit files pointers requested m table = record {
+  unit = unit;
+  limit = limit_in files;
+  pointer = λ f. get_or pointers f 0;
+  requested = requested;
+  reads = λ f k. record_in m (file_in files f).from (file_in files f).size k;
+  table = table;
+}
 
-pub answers_laid : (v : code.View) (l : Layout) (frame buffer : List ℕ) (told : ℕ) (buffer' requested' : List ℕ) → LaidOut l v.files.now →
-    Answers (view_of v) frame buffer told buffer' requested' →
-    Answers (archive_view v.unit l v.pointers.now v.requested.now v.archive.now v.table.now) frame buffer told buffer' requested'
-answers_laid v l frame buffer told buffer' requested' laid answers =
-    let agree = laid_agrees v l laid in
-    let w = archive_view v.unit l v.pointers.now v.requested.now v.archive.now v.table.now in
-    record {
-      sent = subst (λ r. Sent r buffer told buffer') (replies-same (view_of v) w agree frame) answers.sent;
-      asks = answers.asks ∙ requested-same (view_of v) w agree frame;
-    }
+-- that agrees with the view of their layout
+module _ (unit : ℕ) (l : Layout) (files : List File) (pointers requested m table : List ℕ) (laid : LaidOut l files) where
+  abbrev v : View
+  v = files_view unit files pointers requested m table
+
+  pub laid_agrees : Agree v (archive_view unit l pointers requested m table)
+  laid_agrees =
+      record {
+        unit = refl;
+        limit = λ f below. ap (λ x. x.limit) (laid.each f below);
+        pointer = λ f below. refl;
+        requested = refl;
+        reads = λ f below k first last. ap (λ x. record_in m x.from x.size k) (laid.each f below);
+        table = refl;
+      }
+
+  pub answers_laid : (frame buffer : List ℕ) (told : ℕ) (buffer' requested' : List ℕ) →
+      Answers v frame buffer told buffer' requested' →
+      Answers (archive_view unit l pointers requested m table) frame buffer told buffer' requested'
+  answers_laid frame buffer told buffer' requested' answers =
+      let w = archive_view unit l pointers requested m table in
+      record {
+        sent = subst (λ r. Sent r buffer told buffer') (replies-same v w laid_agrees frame) answers.sent;
+        asks = answers.asks ∙ requested-same v w laid_agrees frame;
+      }
 
 -- and a poll is lent them, where they fit archive memory
 pub laid_lends : (l : Layout) (files : List File) (m buffer : List ℕ) → good_files l.groups ≡ true → LaidOut l files → layout_size l ≤ length m →

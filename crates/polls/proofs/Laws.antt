@@ -1,51 +1,49 @@
 -- Laws of what a frame asks. Assumes nothing.
 --     on_file_lem, on-registers   the file, or the register, of an address that is in its row
 --     asked-passed            what is asked has passed its checks
---     length-registers, registers-by, registers-put    the bytes of registers: how many, by each, and one more in a reply buffer
+--     length-registers, registers-by, registers_put    the bytes of registers: how many, by each, and one more in a reply buffer
 --     live-captured           the bytes of live points are those of a captured group
---     record_lent, sets-file  what a poll that is lent its parts lends its steps
---     sent-within, part-sent  the part of a record that is sent: its size, and its bytes
---     no-reply, replied, unasked, asked-for    a frame that is not answered, or is; that leaves what is requested, or sets it
+--     part_sent               the part of a record that is sent
 --     heard-long              the length of a frame that is heard
+--     asked_laws              for a frame that is answered
 --     requested-within        requested numbers stay within n
 use mathlib.Core.Path.{◌≡◌, refl, sym, ap, ap₂, ◌∙◌}
 use mathlib.Core.List.{List, ◌++◌}
-use mathlib.Core.Bool.{true, false, not, ◌&&◌, ◌||◌}
-use Prim.Native.Nat.{ℕ, zero, suc, ◌+◌, ◌-◌, ◌*◌, ◌/◌, ◌%◌, ◌≤◌, ◌<◌}
+use mathlib.Core.Bool.{true, not, ◌&&◌, ◌||◌}
+use Prim.Native.Nat.{ℕ, zero, suc, ◌+◌, ◌-◌, ◌*◌, ◌/◌, ◌≤◌, ◌<◌}
 use native.Mathlib.Numerals.{add-one}
 use native.Mathlib.Omega.{arith}
 use Rattle.std.specs.Prelude.{Option, Some, None, Result, Ok, Err}
-use borrow.Author.Tests.{ltb-false, eqb-false, not-false}
-use lib.Dec.{eqb, ltb}
+use lib.Dec.{eqb}
 use lib.ListN.{length, get_or, take, length-append}
 use lib.Seq.{take-take}
+use Rattle.std.proofs.lemmas.Grind.{common_steps}
 use Rattle.basics.specs.Lists.{pasted}
 use Rattle.basics.specs.Numbers.{within}
 use Rattle.basics.proofs.Lists.{pasted-append}
-use Rattle.basics.proofs.Tests.{by_cond, and_left, or_left, or_right, within-inside}
+use Rattle.basics.proofs.Tests.{by_cond, and_left, within-inside}
 use Rattle.modbus.specs.Word.{word_bytes}
 use Rattle.modbus.specs.Crc.{ends_in_crc}
 use Rattle.modbus.specs.declared.frame.Function.{Function}
 use Rattle.modbus.specs.declared.frame.Function.TheVariants.{ReadFlags, Read, Write}
 use Rattle.modbus.specs.declared.frame.Exception.{Exception}
-use Rattle.modbus.specs.Frame.{Sent, unit_of, function_of, address_of, quantity_of, function_number, function_by}
+use Rattle.modbus.specs.Frame.{unit_of, function_of, address_of, quantity_of, function_number, function_by}
 use Rattle.points.specs.declared.table.Row.{Row}
-use Rattle.points.specs.Table.{row_of, points_size}
-use Rattle.points.specs.Groups.{ends_in_row, group_of}
+use Rattle.points.specs.declared.table.Run.{Run}
+use Rattle.points.specs.Table.{row_of}
+use Rattle.points.specs.Groups.{group_of}
 use Rattle.points.proofs.Laws.{group-of-run}
 use Rattle.records.specs.Capture.{captured_points, captured_group}
-use Rattle.archive.specs.declared.layout.File.{File}
 use Rattle.archive.specs.Layout.{all_files}
-use Rattle.archive.specs.Lent.{file_in}
 use Rattle.archive.proofs.Scans.{set-within}
 use Rattle.polls.specs.declared.request.Asked.{Asked}
 use Rattle.polls.specs.declared.request.Asked.TheVariants.{Record, Registers, LivePoints, SetRequested}
 use Rattle.polls.specs.declared.request.Part.{Part}
 use Rattle.polls.specs.declared.request.Part.TheVariants.{Whole, Stamp}
-use Rattle.polls.specs.Addresses.{on_file, file_at, all_registers, first_register, on_register, on_requested, most_data, function_for, record_asked, registers_asked, points_asked, number_asked, live_asked, read_asked, write_asked}
-use Rattle.polls.specs.View.{View, limit_in}
-use Rattle.polls.specs.Frames.{is_heard, asked_as, asked_by, asked, register, register_bytes, part_of, reply_of, requested_by, asked_of, is_ours, reply_to, requested_after}
-use Rattle.polls.specs.Lent.{least_buffer, LentRecord, LentPoll, Numbered, PointRun, Passed, SetsFile, sent_size}
+use Rattle.polls.specs.Addresses.{on_file, file_at, first_register, on_register, function_for, record_asked, registers_asked, points_asked, number_asked, live_asked, read_asked, write_asked}
+use Rattle.polls.specs.View.{View}
+use Rattle.polls.specs.Frames.{is_heard, asked_as, asked_by, asked, register, register_bytes, part_of, requested_by, asked_of, is_ours, requested_after}
+use Rattle.polls.specs.Lent.{least_buffer, Numbered, PointRun, Passed, sent_size}
 
 -- ---- addresses
 pub on_file_lem : (base a : ℕ) → on_file base a ≡ true → file_at base a < all_files
@@ -66,25 +64,16 @@ module _ (limit : ℕ → ℕ) where
 
   record-passed : (f k : ℕ) (part : Part) → f < all_files → Passed limit (record_asked (limit f) f k part)
   unfolding record_asked
-  record-passed f k part file = by_cond Fine (within 1 (limit f) k) _ _ (number_passed f k file) (λ _. tt)
+  record-passed f k part file = grind (arith, common_steps, number_passed f k file)
 
   registers-passed : (i q : ℕ) → Passed limit (registers_asked i q)
   unfolding registers_asked
-  registers-passed i q =
-      by_cond Fine (not (within 1 all_registers q)) _ _ (λ _. tt)
-      (λ _. by_cond Fine (ltb all_registers (i + q)) _ _ (λ _. tt) (λ past. ltb-false _ _ past))
+  registers-passed i q = grind (arith, common_steps)
 
   -- points from p on, of p's row
   points-passed : (r : Row) (p q : ℕ) → row_of p ≡ Some r → Passed limit (points_asked r p q)
   unfolding points_asked
-  points-passed r p q row =
-      by_cond Fine (eqb q 0 || ltb most_data (points_size r q)) _ _ (λ _. tt)
-      (λ few. by_cond Fine (not (ends_in_row r p q)) _ _ (λ _. tt) (λ ends.
-      let some : q ≡ 0 → ⊥ = eqb-false q 0 (or_left (eqb q 0) (ltb most_data (points_size r q)) few) in
-      record {
-        grouped = group-of-run p q r row (omega arith) (not-false _ ends);
-        short = ltb-false most_data (points_size r q) (or_right (eqb q 0) (ltb most_data (points_size r q)) few);
-      }))
+  points-passed r p q row = grind (arith, common_steps, group-of-run)
 
   live-passed : (function : Function) (found : Option Row) (p q : ℕ) → row_of p ≡ found → Passed limit (live_asked function found p q)
   live-passed function None p q looked = tt
@@ -92,22 +81,11 @@ module _ (limit : ℕ → ℕ) where
 
   read-passed : (requested : List ℕ) (a q : ℕ) → Passed limit (read_asked limit requested a q)
   unfolding read_asked
-  read-passed requested a q =
-      by_cond Fine (on_file 700 a) _ _ (λ is. record-passed (file_at 700 a) (get_or requested (file_at 700 a) 0) _ (on_file_lem 700 a is))
-      (λ _. by_cond Fine (on_file 720 a) _ _ (λ is. record-passed (file_at 720 a) q _ (on_file_lem 720 a is))
-      (λ _. by_cond Fine (on_file 750 a) _ _ (λ is. record-passed (file_at 750 a) (get_or requested (file_at 750 a) 0) _ (on_file_lem 750 a is))
-      (λ _. by_cond Fine (on_file 770 a) _ _ (λ is. record-passed (file_at 770 a) q _ (on_file_lem 770 a is))
-      (λ _. by_cond Fine (on_register a) _ _ (λ _. registers-passed (a - first_register) q)
-      (λ _. live-passed Read (row_of a) a q refl)))))
+  read-passed requested a q = grind (arith, common_steps, record-passed, on_file_lem, registers-passed, live-passed)
 
   write-passed : (a x : ℕ) → Passed limit (write_asked limit a x)
   unfolding write_asked number_asked
-  write-passed a x =
-      let f = (a - first_register) / 3 in
-      by_cond Fine (on_requested a) _ _
-      (λ is. by_cond Fine (within 1 (limit f) x) _ _
-      (number_passed f x (on-registers a (and_left (on_register a) (eqb ((a - first_register) % 3) 2) is))) (λ _. tt))
-      (λ _. tt)
+  write-passed a x = grind (arith, common_steps, on-registers, number_passed)
 
   as-passed : (requested : List ℕ) (a q : ℕ) (function : Function) → Passed limit (asked_as limit requested a q function)
   as-passed requested a q ReadFlags = live-passed ReadFlags (row_of a) a q refl
@@ -137,10 +115,10 @@ registers-by v w i (suc q) each =
     ap₂ (λ xs n. xs ++ word_bytes n) (registers-by v w i q (λ j below. each j (omega (arith, below)))) (each (i + q) (omega arith))
 
 -- one more behind those that stand from byte 3 of a buffer on
-pub registers-put : (v : View) (b b' b'' : List ℕ) (first i w : ℕ) → 3 + 2 * i ≤ length b → b' ≡ pasted b 3 (register_bytes v first i) →
+pub registers_put : (v : View) (b b' b'' : List ℕ) (first i w : ℕ) → 3 + 2 * i ≤ length b → b' ≡ pasted b 3 (register_bytes v first i) →
     w ≡ register v (first + i) → b'' ≡ pasted b' (3 + 2 * i) (word_bytes w) → b'' ≡ pasted b 3 (register_bytes v first (i + 1))
 unfolding register_bytes
-registers-put v b b' b'' first i w fits before is put =
+registers_put v b b' b'' first i w fits before is put =
     let bytes = register_bytes v first i in
     put ∙ ap₂ (λ x y. pasted x (3 + 2 * i) (word_bytes y)) before is
     ∙ pasted-append b bytes (word_bytes (register v (first + i))) 3 (3 + 2 * i)
@@ -149,62 +127,21 @@ registers-put v b b' b'' first i w fits before is put =
 
 -- ---- live points
 -- their bytes are those of a captured group of the same points
-pub live-captured : (table : List ℕ) (r : Row) (p q : ℕ) → PointRun r p q → captured_points table r p q ≡ captured_group table (group_of p q) p q
-live-captured table r p q run = rw run.grouped refl
+pub live-captured : (table : List ℕ) (q : Run) → PointRun q → captured_points table q.row q.point q.count ≡ captured_group table (group_of q.point q.count)
+live-captured table q run = rw run.grouped refl
 
 -- ---- the part of a record that is sent, where a record has a stamp
-pub sent-within : (part : Part) (size : ℕ) → 6 ≤ size → sent_size part size ≤ size
-sent-within Whole size stamped = omega arith
-sent-within Stamp size stamped = stamped
-
-pub part-sent : (part : Part) (size : ℕ) (bytes : List ℕ) → 6 ≤ size → take (sent_size part size) bytes ≡ part_of part (take size bytes)
-part-sent Whole size bytes stamped = refl
-part-sent Stamp size bytes stamped = sym (take-take 6 size bytes stamped)
-
--- ---- what a poll lends its steps
-pub record_lent : (files : List File) (m buffer : List ℕ) (f k : ℕ) (part : Part) → LentPoll files m buffer → Numbered (limit_in files) f k →
-    LentRecord (file_in files f) k (sent_size part (file_in files f).size) m buffer
-record_lent files m buffer f k part lent number =
-    record {
-      ring = record { some = omega (arith, number.first, number.last); fits = lent.fits f number.file };
-      first = number.first;
-      last = number.last;
-      part = sent-within part _ (lent.stamped f number.file);
-      short = lent.short f number.file;
-      buffered = lent.buffered;
-    }
-
-pub sets-file : (limit : ℕ → ℕ) (asks : Result Asked Exception) → Passed limit asks → SetsFile asks
-sets-file limit (Err exception) passed = tt
-sets-file limit (Ok (Record f k part)) passed = tt
-sets-file limit (Ok (Registers i q)) passed = tt
-sets-file limit (Ok (LivePoints r p q)) passed = tt
-sets-file limit (Ok (SetRequested f x)) passed = passed.file
-
--- ---- a frame, by its unit
-module _ (v : View) (frame : List ℕ) where
-  pub no-reply : (b : List ℕ) → (is_heard frame && is_ours v frame) ≡ false → Sent (reply_to v frame) b 0 b
-  unfolding reply_to
-  no-reply b other = rw other (record { size = refl; left = refl })
-
-  pub replied : (b b' : List ℕ) (told : ℕ) → (is_heard frame && is_ours v frame) ≡ true → Sent (reply_of v frame (asked_of v frame)) b told b' →
-      Sent (reply_to v frame) b told b'
-  unfolding reply_to
-  replied b b' told ours sent = rw ours sent
-
-  pub unasked : (is_heard frame && (is_ours v frame || eqb (unit_of frame) 0)) ≡ false → v.requested ≡ requested_after v frame
-  unfolding requested_after
-  unasked other = simp other
-
-  pub asked-for : (is_heard frame && (is_ours v frame || eqb (unit_of frame) 0)) ≡ true →
-      requested_by (asked_of v frame) v.requested ≡ requested_after v frame
-  unfolding requested_after
-  asked-for ours = simp ours
+pub part_sent : (part : Part) (size : ℕ) (bytes : List ℕ) → 6 ≤ size → take (sent_size part size) bytes ≡ part_of part (take size bytes)
+part_sent Whole size bytes stamped = refl
+part_sent Stamp size bytes stamped = sym (take-take 6 size bytes stamped)
 
 -- a frame that is heard has a function, and fits a reply buffer
 pub heard-long : (frame : List ℕ) → is_heard frame ≡ true → (4 ≤ length frame) × (length frame ≤ least_buffer)
 unfolding is_heard
 heard-long frame heard = within-inside 4 256 (length frame) (and_left (within 4 256 (length frame)) (ends_in_crc frame) heard)
+
+-- for a frame that is answered
+pub ruleset asked_laws = (asked-passed, heard-long)
 
 -- ---- requested numbers stay within n
 numbers-within : (limit : ℕ → ℕ) (numbers : List ℕ) → ((f : ℕ) → f < all_files → get_or numbers f 0 ≤ limit f) → (a : Result Asked Exception) → Passed limit a →
@@ -212,7 +149,7 @@ numbers-within : (limit : ℕ → ℕ) (numbers : List ℕ) → ((f : ℕ) → f
 numbers-within limit numbers old (Err exception) passed f below = old f below
 numbers-within limit numbers old (Ok (Record g k part)) passed f below = old f below
 numbers-within limit numbers old (Ok (Registers i q)) passed f below = old f below
-numbers-within limit numbers old (Ok (LivePoints r p q)) passed f below = old f below
+numbers-within limit numbers old (Ok (LivePoints q)) passed f below = old f below
 numbers-within limit numbers old (Ok (SetRequested g x)) passed f below = set-within limit numbers g x f passed.last (old f below)
 
 pub requested-within : (v : View) (frame : List ℕ) → ((f : ℕ) → f < all_files → get_or v.requested f 0 ≤ v.limit f) →

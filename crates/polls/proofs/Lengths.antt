@@ -50,8 +50,8 @@ module _ (unit : ℕ) (l : Layout) (pointers requested m table : List ℕ) (good
   answer-short frame (Ok (Record f k Stamp)) passed few =
       read_short unit 3 (take 6 (view.reads f k)) (omega (arith, take_short 6 (view.reads f k)))
   answer-short frame (Ok (Registers i q)) passed few = read_short unit 3 (register_bytes view i q) (rw length-registers (omega (arith, passed)))
-  answer-short frame (Ok (LivePoints r p q)) passed few =
-      read_short unit (function_of frame) (captured_points table r p q) (omega (arith, length-captured table (Points r) p q, passed.short))
+  answer-short frame (Ok (LivePoints q)) passed few =
+      read_short unit (function_of frame) (captured_points table q.row q.point q.count) (omega (arith, length-captured table (Points q), passed.short))
   answer-short frame (Ok (SetRequested f x)) passed few = few
 
   pub reply-short : (frame : List ℕ) → length (reply_to view frame) ≤ least_buffer

@@ -9,7 +9,7 @@ use Rattle.modbus.specs.declared.frame.Exception.TheVariants.{IllegalAddress, Il
 use Rattle.modbus.specs.Frame.{function_number}
 use Rattle.points.specs.declared.table.Row.{Row}
 use Rattle.points.specs.Table.{row_of, is_bits, points_size}
-use Rattle.points.specs.Groups.{ends_in_row}
+use Rattle.points.specs.Groups.{run, ends_in_row}
 use Rattle.archive.specs.Layout.{all_files}
 use Rattle.polls.specs.declared.request.Asked.{Asked}
 use Rattle.polls.specs.declared.request.Asked.TheVariants.{Record, Registers, LivePoints, SetRequested}
@@ -63,7 +63,7 @@ unfoldable pub points_asked : Row → ℕ → ℕ → Result Asked Exception
 points_asked r p q =
     cond (eqb q 0 || ltb most_data (points_size r q)) (Err IllegalValue)
     (cond (not (ends_in_row r p q)) (Err IllegalAddress)
-    (Ok (LivePoints r p q)))
+    (Ok (LivePoints (run r p q))))
 
 -- a requested number: value not 1..n is exception 03
 unfoldable pub number_asked : ℕ → ℕ → ℕ → Result Asked Exception

@@ -59,7 +59,7 @@ unfoldable pub reply_of : View → List ℕ → Result Asked Exception → List 
 reply_of v frame (Err exception) = exception_reply v.unit (function_of frame) (code_of exception)
 reply_of v frame (Ok (Record f k part)) = read_reply v.unit (part_of part (v.reads f k))
 reply_of v frame (Ok (Registers i q)) = read_reply v.unit (register_bytes v i q)
-reply_of v frame (Ok (LivePoints r p q)) = read_reply_by v.unit (function_of frame) (captured_points v.table r p q)
+reply_of v frame (Ok (LivePoints q)) = read_reply_by v.unit (function_of frame) (captured_points v.table q.row q.point q.count)
 reply_of v frame (Ok (SetRequested f x)) = frame
 
 -- and left requested
@@ -67,7 +67,7 @@ abbrev pub requested_by : Result Asked Exception → List ℕ → List ℕ
 requested_by (Err exception) requested = requested
 requested_by (Ok (Record f k part)) requested = requested
 requested_by (Ok (Registers i q)) requested = requested
-requested_by (Ok (LivePoints r p q)) requested = requested
+requested_by (Ok (LivePoints q)) requested = requested
 requested_by (Ok (SetRequested f x)) requested = set requested f x
 
 -- ---- a frame

@@ -1,7 +1,7 @@
 -- What the functions of this crate are lent, by a poll that is not refused.
 use Rattle.std.specs.Prelude.{◌≡◌, List, ℕ, ◌+◌, ◌*◌, ◌≤◌, ◌<◌, length, Result, Ok, Err}
 use Rattle.modbus.specs.declared.frame.Exception.{Exception}
-use Rattle.points.specs.declared.table.Row.{Row}
+use Rattle.points.specs.declared.table.Run.{Run}
 use Rattle.points.specs.declared.groups.Group.TheVariants.{Points}
 use Rattle.points.specs.Table.{table_bytes, points_size}
 use Rattle.points.specs.Groups.{group_of}
@@ -27,14 +27,14 @@ pub record LentRecord (file : File) (k size : ℕ) (m buffer : List ℕ) : Type 
   pub short : file.size ≤ 250
   pub buffered : least_buffer ≤ length buffer
 
--- q points of row r from p on: a group whose bytes fit a reply
-pub record PointRun (r : Row) (p q : ℕ) : Type 0 where
-  pub grouped : group_of p q ≡ Points r
-  pub short : points_size r q ≤ most_data
+-- points that are a group whose bytes fit a reply
+pub record PointRun (q : Run) : Type 0 where
+  pub grouped : group_of q.point q.count ≡ Points q
+  pub short : points_size q.row q.count ≤ most_data
 
 -- such points, a live table and a reply buffer
-pub record LentPoints (r : Row) (p q : ℕ) (table buffer : List ℕ) : Type 0 where
-  pub run : PointRun r p q
+pub record LentPoints (q : Run) (table buffer : List ℕ) : Type 0 where
+  pub run : PointRun q
   pub whole : length table ≡ table_bytes
   pub buffered : least_buffer ≤ length buffer
 
@@ -56,7 +56,7 @@ abbrev pub Passed : (ℕ → ℕ) → Result Asked Exception → Type 0
 Passed limit (Err exception) = Unit {0}
 Passed limit (Ok (Record f k part)) = Numbered limit f k
 Passed limit (Ok (Registers i q)) = i + q ≤ all_registers
-Passed limit (Ok (LivePoints r p q)) = PointRun r p q
+Passed limit (Ok (LivePoints q)) = PointRun q
 Passed limit (Ok (SetRequested f x)) = Numbered limit f x
 
 -- a requested number that is set is a file's
@@ -64,7 +64,7 @@ abbrev pub SetsFile : Result Asked Exception → Type 0
 SetsFile (Err exception) = Unit {0}
 SetsFile (Ok (Record f k part)) = Unit {0}
 SetsFile (Ok (Registers i q)) = Unit {0}
-SetsFile (Ok (LivePoints r p q)) = Unit {0}
+SetsFile (Ok (LivePoints q)) = Unit {0}
 SetsFile (Ok (SetRequested f x)) = f < all_files
 
 -- how many bytes of a record are sent, of which there are `size`

@@ -59,6 +59,7 @@ fn requested_by(asked: Result<Asked, Exception>, requested: &[u16; FILES]) -> [u
 }
 
 // Sends the reply to a frame for our unit by what it asked, and answers the reply's length.
+#[tactic(auto, using(crate::proofs::Laws::part_sent), unfolding(crate::specs::Frames::reply_of))]
 fn reply_to(asked: Result<Asked, Exception>, buffer: &mut [u8], frame: &[u8], view: &View) -> usize
     requires lent_poll { LentPoll view.now.files.now view.now.archive.now buffer.old }
     requires lent_asked { LentAsked (limit_in view.now.files.now) frame.now asked }
@@ -73,9 +74,9 @@ fn reply_to(asked: Result<Asked, Exception>, buffer: &mut [u8], frame: &[u8], vi
             send_record(buffer, view.unit, archive, file, number, size)
         }
         Ok(Asked::Registers { first, count }) => send_registers(buffer, view, first, count),
-        Ok(Asked::LivePoints { row, point, count }) => {
+        Ok(Asked::LivePoints(run)) => {
             let table = view.table;
-            send_points(buffer, view.unit, frame[1], table, row, point, count)
+            send_points(buffer, view.unit, frame[1], table, run)
         }
         Ok(Asked::SetRequested { .. }) => send_echo(buffer, frame),
     }
@@ -84,6 +85,7 @@ fn reply_to(asked: Result<Asked, Exception>, buffer: &mut [u8], frame: &[u8], vi
 impl View<'_> {
     // Answers a frame of any length and content: all checks come before the first byte of the reply. It is not put into its caller: what it
     // keeps would lie on the stack while the state is checked, where a poll is deepest.
+    #[tactic(auto, using(crate::proofs::Laws::asked_laws), unfolding(crate::specs::Frames::reply_to, crate::specs::Frames::requested_after))]
     #[inline(never)]
     pub fn answer(&self, buffer: &mut [u8], frame: &[u8]) -> Answered
         requires { LentPoll self.now.files.now self.now.archive.now buffer.old }

@@ -1,6 +1,5 @@
-// Buffer and unit go on as they are, as in `modbus`.
 // Replies, built where they are sent from: bytes go once from where they stand, live texts cleaned on the way, to byte 3 of the reply
-// buffer.
+// buffer. Buffer and unit go on as two: C lends the one, and the state has the other.
 ghost use Rattle.std.specs.Prelude.{◌≡◌, ◌+◌, ◌≤◌, ◌<◌, length, take, drop};
 ghost use Rattle.modbus.specs.Frame.{read_reply, read_reply_by, Sent};
 ghost use Rattle.records.specs.Capture.{captured_points};
@@ -11,7 +10,7 @@ ghost use Rattle.polls.specs.Lent.{LentPoints};
 use crate::view::View;
 use modbus::frame::{Function, close_read_reply};
 use modbus::word::put_word;
-use points::Row;
+use points::Run;
 use records::record::write_points;
 
 // Sends `size` bytes of archive memory from place `at` on as a read reply, and answers its length.
@@ -50,6 +49,7 @@ fn register_at(view: &View, i: usize) -> u16
 }
 
 // Sends registers as a read reply, and answers its length.
+#[tactic(auto, using(crate::proofs::Laws::registers_put), unfolding(crate::specs::Frames::register_bytes))]
 pub fn send_registers(buffer: &mut [u8], view: &View, first: usize, count: usize) -> usize
     requires { (first + count ≤ 33) × (256 ≤ length buffer.old) }
     ensures { Sent (read_reply view.now.unit (register_bytes (view_of view.now) first count))
@@ -62,22 +62,14 @@ pub fn send_registers(buffer: &mut [u8], view: &View, first: usize, count: usize
 }
 
 // Sends live points, as a capture has them, as a read reply by the function that asked, and answers its length.
-// The function is the byte that asked, as `close_read_reply` takes it.
-pub fn send_points(
-    buffer: &mut [u8],
-    unit: u8,
-    function: u8,
-    table: &[u8],
-    row: Row,
-    point: u16,
-    count: u16,
-) -> usize
-    requires { LentPoints row point count table.now buffer.old }
+// The function is the request's own byte, as `close_read_reply` takes it.
+pub fn send_points(buffer: &mut [u8], unit: u8, function: u8, table: &[u8], run: Run) -> usize
+    requires { LentPoints run table.now buffer.old }
     ensures { Sent
-        (read_reply_by unit function (captured_points table.now row point count))
+        (read_reply_by unit function (captured_points table.now run.row run.point run.count))
         buffer.old result buffer.new }
 {
-    let size = row.bytes(count);
-    write_points(&mut buffer[3..3 + size], table, row, point, count);
+    let size = run.bytes();
+    write_points(&mut buffer[3..3 + size], table, run);
     close_read_reply(buffer, unit, function, size)
 }

@@ -9,7 +9,8 @@ ghost use Rattle.polls.specs.Lent.{sent_size};
 use archive::layout::{FILES, File};
 use modbus::frame::{Exception, Function};
 use modbus::word::word_at;
-use points::Row;
+use points::groups::STAMP_BYTES;
+use points::{Row, Run};
 
 // What of a record is read: all of it, or its stamp only.
 #[derive(Clone, Copy, Debug, PartialEq, Eq)]
@@ -18,9 +19,6 @@ pub enum Part {
     Stamp,
 }
 
-// A stamp's bytes, the first of each record.
-const STAMP_SIZE: usize = 6;
-
 impl Part {
     // How many bytes of a record are sent, of which there are `size`.
     pub fn sent_size(self, size: usize) -> usize
@@ -28,7 +26,7 @@ impl Part {
     {
         match self {
             Part::Whole => size,
-            Part::Stamp => STAMP_SIZE,
+            Part::Stamp => STAMP_BYTES,
         }
     }
 }
@@ -46,11 +44,7 @@ pub enum Asked {
         count: usize,
     },
     // of the live table
-    LivePoints {
-        row: Row,
-        point: u16,
-        count: u16,
-    },
+    LivePoints(Run),
     // the number that is requested of a file from now on
     SetRequested {
         file: usize,
@@ -104,28 +98,28 @@ fn ask_registers(first: u16, quantity: u16) -> Result<Asked, Exception>
     })
 }
 
-// A run of points of a row of the live table.
+// Points of a row of the live table.
 #[tactic(auto, unfolding(crate::specs::Addresses::points_asked))]
-fn ask_points(row: Row, point: u16, count: u16) -> Result<Asked, Exception>
-    ensures { result ≡ points_asked row point count }
+fn ask_points(run: Run) -> Result<Asked, Exception>
+    ensures { result ≡ points_asked run.row run.point run.count }
 {
-    if count == 0 {
+    if run.count == 0 {
         return Err(Exception::IllegalValue);
     }
-    if MOST_DATA < row.bytes(count) {
+    if MOST_DATA < run.bytes() {
         return Err(Exception::IllegalValue);
     }
-    if !row.ends(point, count) {
+    if !run.ends() {
         return Err(Exception::IllegalAddress);
     }
-    Ok(Asked::LivePoints { row, point, count })
+    Ok(Asked::LivePoints(run))
 }
 
 // The function that reads a row of the live table: 01 for the Booleans, 03 for any other.
 fn function_for(row: Row) -> Function
     ensures { result ≡ function_for row }
 {
-    if row.size == 0 {
+    if row.is_bits() {
         Function::ReadFlags
     } else {
         Function::Read
@@ -137,7 +131,11 @@ fn ask_live(function: Function, address: u16, quantity: u16) -> Result<Asked, Ex
     ensures { result ≡ live_asked function (row_of address) address quantity }
 {
     match Row::of(address) {
-        Some(row) if function == function_for(row) => ask_points(row, address, quantity),
+        Some(row) if function == function_for(row) => ask_points(Run {
+            row,
+            point: address,
+            count: quantity,
+        }),
         _ => Err(Exception::IllegalAddress),
     }
 }

@@ -20,9 +20,10 @@ use Rattle.modbus.specs.Word.{number_of, word_at}
 use Rattle.points.specs.declared.table.Kind.{Kind}
 use Rattle.points.specs.declared.table.Kind.TheVariants.{Boolean, Int16, Text8, Int32, Float, Text16}
 use Rattle.points.specs.declared.table.Row.{Row}
+use Rattle.points.specs.declared.table.Run.{Run}
 use Rattle.points.specs.declared.groups.Group.TheVariants.{Points}
 use Rattle.points.specs.Table.{flag_at, packed_size, points_size}
-use Rattle.points.specs.Groups.{count_at, group_at, group_size, groups_size, record_size}
+use Rattle.points.specs.Groups.{group_at, group_size, groups_size, record_size}
 use Rattle.points.proofs.Laws.{group-inside, kind_size, lookup-size, groups-size-next, groups-size-mono}
 use Rattle.records.specs.Value.{flag, int16, int32, float, signed, value_of, bytes_in_stretch, value_in_stretch}
 use Rattle.reader.specs.declared.stretch.Stretch.{Stretch}
@@ -33,11 +34,11 @@ use Rattle.reader.specs.Frame.{group_named}
 
 -- ---- places
 -- the points of a place end within the record
-pub place_inside : (gs : List ℕ) (k : ℕ) (r : Row) → k < 16 → group_at gs k ≡ Points r →
-    6 + groups_size gs k + points_size r (count_at gs k) ≤ record_size gs
+pub place_inside : (gs : List ℕ) (k : ℕ) (q : Run) → k < 16 → group_at gs k ≡ Points q →
+    6 + groups_size gs k + points_size q.row q.count ≤ record_size gs
 unfolding record_size
-place_inside gs k r below is =
-    let sized : group_size (group_at gs k) (count_at gs k) ≡ points_size r (count_at gs k) = ap (λ g. group_size g (count_at gs k)) is in
+place_inside gs k q below is =
+    let sized : group_size (group_at gs k) ≡ points_size q.row q.count = ap group_size is in
     omega (arith, sized, groups-size-next gs k, groups-size-mono gs (k + 1) 16 (omega arith))
 
 -- the group of a place
@@ -71,66 +72,66 @@ flag-of r stretch e is bits = simp (eq-eqb r.size 0 bits) (ap (λ x. value_of x 
 
 -- ---- what a stretch holds of point e, counted from 0
 -- the row's size is its kind's
-lent-size : (s : Stretch) (k : Kind) → IsLent s → s.row.kind ≡ k → s.row.size ≡ kind_size k
-lent-size s k lent is = lookup-size lent.point s.row (group-inside lent.point s.count s.row lent.grouped).0 ∙ ap kind_size is
+lent-size : (s : Stretch) (k : Kind) → IsLent s → s.run.row.kind ≡ k → s.run.row.size ≡ kind_size k
+lent-size s k lent is = lookup-size s.run.point s.run.row (group-inside s.run.point s.run.count s.run lent.grouped).1 ∙ ap kind_size is
 
 -- Booleans
-pub lent-flags : (s : Stretch) → IsLent s → s.row.kind ≡ Boolean → s.count ≤ 8 * length s.bytes.now
+pub lent-flags : (s : Stretch) → IsLent s → s.run.row.kind ≡ Boolean → s.run.count ≤ 8 * length s.bytes.now
 unfolding points_size
 lent-flags s lent is =
-    let test = eq-eqb s.row.size 0 (lent-size s Boolean lent is) in
-    let packed : length s.bytes.now ≡ packed_size s.count = simp test at lent.sized in
+    let test = eq-eqb s.run.row.size 0 (lent-size s Boolean lent is) in
+    let packed : length s.bytes.now ≡ packed_size s.run.count = simp test at lent.sized in
     omega (arith, packed)
 
-module _ (s : Stretch) (e : ℕ) (lent : IsLent s) (known : e < s.count) where
+module _ (s : Stretch) (e : ℕ) (lent : IsLent s) (known : e < s.run.count) where
   -- a value of whole bytes
-  whole-bytes : (s.row.size ≡ 0 → ⊥) → (e + 1) * s.row.size ≤ length s.bytes.now
+  whole-bytes : (s.run.row.size ≡ 0 → ⊥) → (e + 1) * s.run.row.size ≤ length s.bytes.now
   unfolding points_size
   whole-bytes some =
-      let test = ne_eqb s.row.size 0 some in
-      let wide : length s.bytes.now ≡ s.count * s.row.size = simp test at lent.sized in
-      rw wide (mul-le-mul_right s.row.size (omega (arith, known)))
+      let test = ne_eqb s.run.row.size 0 some in
+      let wide : length s.bytes.now ≡ s.run.count * s.run.row.size = simp test at lent.sized in
+      rw wide (mul-le-mul_right s.run.row.size (omega (arith, known)))
 
   -- the place of a value of any kind
-  pub lent-place : e * s.row.size ≤ length s.bytes.now
-  lent-place = ⊎_elim (λ none. rw none (omega arith)) (λ some. omega (arith, whole-bytes some, add-mul e 1 s.row.size)) (eq-or-not s.row.size 0)
+  pub lent-place : e * s.run.row.size ≤ length s.bytes.now
+  lent-place = ⊎_elim (λ none. rw none (omega arith)) (λ some. omega (arith, whole-bytes some, add-mul e 1 s.run.row.size)) (eq-or-not s.run.row.size 0)
 
   -- a Boolean
-  pub flag-value : s.row.kind ≡ Boolean → value_in_stretch s.row s.bytes.now e ≡ flag (eqb (flag_at s.bytes.now 0 e) 1)
-  flag-value is = flag-of s.row s.bytes.now e is (lent-size s Boolean lent is)
+  pub flag-value : s.run.row.kind ≡ Boolean → value_in_stretch s.run.row s.bytes.now e ≡ flag (eqb (flag_at s.bytes.now 0 e) 1)
+  flag-value is = flag-of s.run.row s.bytes.now e is (lent-size s Boolean lent is)
 
   -- a value of another kind
-  module _ (k : Kind) (is : s.row.kind ≡ k) (wide : ltb 0 (kind_size k) ≡ true) where
-    lent-bytes : e * s.row.size + kind_size k ≤ length s.bytes.now
+  module _ (k : Kind) (is : s.run.row.kind ≡ k) (wide : ltb 0 (kind_size k) ≡ true) where
+    lent-bytes : e * s.run.row.size + kind_size k ≤ length s.bytes.now
     lent-bytes =
         let size = lent-size s k lent is in
-        let some : s.row.size ≡ 0 → ⊥ = λ none. omega (arith, ltb-true 0 (kind_size k) wide, size, none) in
-        omega (arith, whole-bytes some, add-mul e 1 s.row.size, size)
+        let some : s.run.row.size ≡ 0 → ⊥ = λ none. omega (arith, ltb-true 0 (kind_size k) wide, size, none) in
+        omega (arith, whole-bytes some, add-mul e 1 s.run.row.size, size)
 
-    own-value : value_in_stretch s.row s.bytes.now e ≡ value_of k (take (kind_size k) (drop (e * s.row.size) s.bytes.now))
-    own-value = value_of_lem s.row s.bytes.now e k is (lent-size s k lent is) wide
+    own-value : value_in_stretch s.run.row s.bytes.now e ≡ value_of k (take (kind_size k) (drop (e * s.run.row.size) s.bytes.now))
+    own-value = value_of_lem s.run.row s.bytes.now e k is (lent-size s k lent is) wide
 
-    own-long : length (take (kind_size k) (drop (e * s.row.size) s.bytes.now)) ≡ s.row.size
-    own-long = length_part s.bytes.now (e * s.row.size) (kind_size k) lent-bytes ∙ sym (lent-size s k lent is)
+    own-long : length (take (kind_size k) (drop (e * s.run.row.size) s.bytes.now)) ≡ s.run.row.size
+    own-long = length_part s.bytes.now (e * s.run.row.size) (kind_size k) lent-bytes ∙ sym (lent-size s k lent is)
 
   -- a number
-  pub lent-two : s.row.kind ≡ Int16 → e * s.row.size + 2 ≤ length s.bytes.now
+  pub lent-two : s.run.row.kind ≡ Int16 → e * s.run.row.size + 2 ≤ length s.bytes.now
   lent-two is = lent-bytes Int16 is refl
 
-  pub lent-four : (s.row.kind ≡ Int32) ⊎ (s.row.kind ≡ Float) → e * s.row.size + 4 ≤ length s.bytes.now
+  pub lent-four : (s.run.row.kind ≡ Int32) ⊎ (s.run.row.kind ≡ Float) → e * s.run.row.size + 4 ≤ length s.bytes.now
   lent-four is = ⊎_elim (λ long. lent-bytes Int32 long refl) (λ single. lent-bytes Float single refl) is
 
-  pub int16-value : s.row.kind ≡ Int16 → value_in_stretch s.row s.bytes.now e ≡ int16 (signed 16 (number_of (take 2 (drop (e * s.row.size) s.bytes.now))))
+  pub int16-value : s.run.row.kind ≡ Int16 → value_in_stretch s.run.row s.bytes.now e ≡ int16 (signed 16 (number_of (take 2 (drop (e * s.run.row.size) s.bytes.now))))
   int16-value is = own-value Int16 is refl
 
-  pub int32-value : s.row.kind ≡ Int32 → value_in_stretch s.row s.bytes.now e ≡ int32 (signed 32 (number_of (take 4 (drop (e * s.row.size) s.bytes.now))))
+  pub int32-value : s.run.row.kind ≡ Int32 → value_in_stretch s.run.row s.bytes.now e ≡ int32 (signed 32 (number_of (take 4 (drop (e * s.run.row.size) s.bytes.now))))
   int32-value is = own-value Int32 is refl
 
-  pub float-value : s.row.kind ≡ Float → value_in_stretch s.row s.bytes.now e ≡ float (number_of (take 4 (drop (e * s.row.size) s.bytes.now)))
+  pub float-value : s.run.row.kind ≡ Float → value_in_stretch s.run.row s.bytes.now e ≡ float (number_of (take 4 (drop (e * s.run.row.size) s.bytes.now)))
   float-value is = own-value Float is refl
 
   -- a text
-  pub text-value : (at : ℕ) → (s.row.kind ≡ Text8) ⊎ (s.row.kind ≡ Text16) → answered (value_in_stretch s.row s.bytes.now e) at ≡ Text (part at s.row.size)
+  pub text-value : (at : ℕ) → (s.run.row.kind ≡ Text8) ⊎ (s.run.row.kind ≡ Text16) → answered (value_in_stretch s.run.row s.bytes.now e) at ≡ Text (part at s.run.row.size)
   text-value at =
       ⊎_elim (λ is. rw (own-value Text8 is refl, own-long Text8 is refl) refl) (λ is. rw (own-value Text16 is refl, own-long Text16 is refl) refl)
 

@@ -27,10 +27,11 @@ use Rattle.modbus.proofs.Laws.{framed-checks}
 use Rattle.points.specs.declared.table.Kind.{Kind}
 use Rattle.points.specs.declared.table.Kind.TheVariants.{Boolean, Int16, Text8, Int32, Float, Text16}
 use Rattle.points.specs.declared.table.Row.{Row}
+use Rattle.points.specs.declared.table.Run.{Run}
 use Rattle.points.specs.declared.groups.Group.TheVariants.{Points}
 use Rattle.points.specs.Table.{table_bytes, points_size}
-use Rattle.points.specs.Groups.{group_at, first_point_at, count_at, group_size, judged}
-use Rattle.points.proofs.Laws.{judged-good, group-inside, kind_size, lookup-size}
+use Rattle.points.specs.Groups.{group_of, group_at, group_size, judged}
+use Rattle.points.proofs.Laws.{judged-good, group_again, group-inside, kind_size, lookup-size}
 use Rattle.records.specs.declared.stamp.Stamp.{Stamp}
 use Rattle.records.specs.Stamp.{in_range, stamp_from}
 use Rattle.records.specs.Capture.{captured_points, captured_group}
@@ -142,12 +143,18 @@ module _ (unit size : ℕ) (d : Bool) (s : Stamp) (t gs : List ℕ)
   frame-done = simp (good, checks, record-in, record-not-zero d s t gs dated, stamp-back d s t gs, dated, long)
 
   -- ---- a place of points
-  module _ (g : ℕ) (r : Row) (from : 1 ≤ g) (to : g ≤ 16) (is : group_at gs (g - 1) ≡ Points r) where
+  module _ (g : ℕ) (q : Run) (from : 1 ≤ g) (to : g ≤ 16) (is : group_at gs (g - 1) ≡ Points q) where
+    r : Row
+    r = q.row
+
     p : ℕ
-    p = first_point_at gs (g - 1)
+    p = q.point
 
     n : ℕ
-    n = count_at gs (g - 1)
+    n = q.count
+
+    own : group_of q.point q.count ≡ Points q
+    own = group_again _ _ q is
 
     stretch-done : stretch_checked gs d (record_reply unit d s t gs) g ≡ Ok size
     unfolding stretch_checked
@@ -155,14 +162,14 @@ module _ (unit size : ℕ) (d : Bool) (s : Stamp) (t gs : List ℕ)
 
     fits : stretch_from gs g + stretch_length gs g ≤ size
     fits =
-        let sized : stretch_length gs g ≡ points_size r (count_at gs (g - 1)) = ap (λ x. group_size x (count_at gs (g - 1))) is in
-        omega (arith, sized, place_inside gs (g - 1) r (omega arith) is, (judged-good gs size good).sized)
+        let sized : stretch_length gs g ≡ points_size q.row q.count = ap group_size is in
+        omega (arith, sized, place_inside gs (g - 1) q (omega arith) is, (judged-good gs size good).sized)
 
     in-record : stretch_part gs (record_part (record_reply unit d s t gs) size) g ≡ captured_points t r p n
-    unfolding p n
+    unfolding r p n
     in-record =
         ap (λ l. stretch_part gs l g) record-in ∙ record-stretch d s t gs (g - 1) (omega arith)
-        ∙ ap (λ x. captured_group t x (first_point_at gs (g - 1)) (count_at gs (g - 1))) is
+        ∙ ap (captured_group t) is
 
     in_frame : take (stretch_length gs g) (drop (3 + stretch_from gs g) (record_reply unit d s t gs)) ≡ captured_points t r p n
     in_frame =
@@ -171,30 +178,30 @@ module _ (unit size : ℕ) (d : Bool) (s : Stamp) (t gs : List ℕ)
     -- ---- a point of it
     module _ (e : ℕ) (some : 1 ≤ e) (most : e ≤ n) where
       in_table : value_in_stretch r (captured_points t r p n) (e - 1) ≡ value_in_table t r (p + (e - 1))
-      unfolding p n
-      in_table = found-value t r p n (e - 1) table is (omega arith)
+      unfolding r p n
+      in_table = found-value t r p n (e - 1) table own (omega arith)
 
       value-back : point_value gs d (record_reply unit d s t gs) g e ≡ answered (value_in_table t r (p + (e - 1))) (3 + stretch_from gs g + (e - 1) * r.size)
-      unfolding point_value p n
+      unfolding point_value r p n
       value-back =
           ap (λ c. point_found c gs (record_reply unit d s t gs) g e) stretch-done
-          ∙ ap₂ (λ x l. point_in x l (3 + stretch_from gs g) n e) (named-is gs g from to ∙ is) in-record
+          ∙ ap₂ (λ x l. point_in x l (3 + stretch_from gs g) e) (named-is gs g from to ∙ is) in-record
           ∙ simp (le-leb 1 e some, le-leb e n most) (ap (λ v. answered v (3 + stretch_from gs g + (e - 1) * r.size)) in_table)
 
       -- a text's bytes in the frame are the text
       words_back : (bs : List ℕ) → value_in_table t r (p + (e - 1)) ≡ text bs →
           take (length bs) (drop (3 + stretch_from gs g + (e - 1) * r.size) (record_reply unit d s t gs)) ≡ bs
-      unfolding p n
+      unfolding r p n
       words_back bs says =
           let z = r.size in
           let i = e - 1 in
-          let own = text-bytes r (captured_points t r p n) i bs (lookup-size p r (group-inside p n r is).0) (in_table ∙ says) in
+          let words = text-bytes r (captured_points t r p n) i bs (lookup-size p r (group-inside p n q own).1) (in_table ∙ says) in
           let ends : (i + 1) * z ≤ n * z = mul-le-mul_right z (omega arith) in
           let next : (i + 1) * z ≡ i * z + 1 * z = add-mul i 1 z in
-          let sized : stretch_length gs g ≡ n * z = ap (λ x. group_size x n) is ∙ points-size-wide r n own.0 in
+          let sized : stretch_length gs g ≡ n * z = ap group_size is ∙ points-size-wide r n words.0 in
           let here : take z (drop (3 + stretch_from gs g + i * z) (record_reply unit d s t gs)) ≡ bs
           = sym (part-part (record_reply unit d s t gs) (3 + stretch_from gs g) (stretch_length gs g) (i * z) z (omega (arith, reply-long, fits)) (omega (arith, ends, next, sized)))
-          ∙ ap (λ l. take z (drop (i * z) l)) in_frame ∙ own.1 in
+          ∙ ap (λ l. take z (drop (i * z) l)) in_frame ∙ words.1 in
           let count : length bs ≡ z
           = ap length (sym here) ∙ length_part (record_reply unit d s t gs) (3 + stretch_from gs g + i * z) z (omega (arith, reply-long, fits, ends, next, sized)) in
           ap (λ k. take k (drop (3 + stretch_from gs g + i * z) (record_reply unit d s t gs))) count ∙ here
@@ -202,22 +209,22 @@ module _ (unit size : ℕ) (d : Bool) (s : Stamp) (t gs : List ℕ)
       -- the answer in numbers
       point-back : let answer = point_answer (point_value gs d (record_reply unit d s t gs) g e) in
           (answer.number ≡ done_no) × (answer.kind ≡ kind_number r.kind) × (told_by (record_reply unit d s t gs) answer ≡ value_in_table t r (p + (e - 1)))
-      unfolding p n
+      unfolding r p n
       point-back =
           let v = value_in_table t r (p + (e - 1)) in
           let at = 3 + stretch_from gs g + (e - 1) * r.size in
-          let size = lookup-size p r (group-inside p n r is).0 in
-          let fits = table_fits t r (p + (e - 1)) bytes size (own-inside t r p n (e - 1) table is (omega arith)) in (
+          let size = lookup-size p r (group-inside p n q own).1 in
+          let fits = table_fits t r (p + (e - 1)) bytes size (own-inside t r p n (e - 1) table own (omega arith)) in (
             ap (λ x. (point_answer x).number) value-back ∙ answered-done v at,
             ap (λ x. (point_answer x).kind) value-back ∙ answered-kind t r (p + (e - 1)) at,
             ap (λ x. told_by (record_reply unit d s t gs) (point_answer x)) value-back ∙ numbers-tell (record_reply unit d s t gs) v at fits words_back,
           )
 
   pub gets_back : GetsBack unit size d s t gs
-  unfolding record_answer stamp_answer found_record found_stamp p n
+  unfolding record_answer stamp_answer found_record found_stamp r p n
   gets_back =
       record {
         whole = simp frame-done;
         stamp = simp (frame-done, record-in, stamp-back d s t gs);
-        point = λ g e r from to is some most. point-back g r from to is e some most;
+        point = λ g e q from to is some most. point-back g q from to is e some most;
       }

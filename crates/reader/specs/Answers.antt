@@ -6,7 +6,6 @@ use Rattle.basics.specs.Card.{Card, card_of, done_card, done_no}
 use Rattle.basics.specs.Numbers.{within}
 use Rattle.points.specs.declared.groups.Group.{Group}
 use Rattle.points.specs.declared.groups.Group.TheVariants.{Unused, Points, Bad}
-use Rattle.points.specs.Groups.{count_at}
 use Rattle.records.specs.declared.stamp.Stamp.{Stamp}
 use Rattle.records.specs.Stamp.{stamp_from}
 use Rattle.records.specs.Value.{PointValue, flag, int16, int32, float, text, value_in_stretch}
@@ -40,17 +39,17 @@ answered (int32 z) at = Int32 z
 answered (float x) at = Float x
 answered (text bs) at = Text (part at (length bs))
 
--- point e of the stretch of a group of n points, which starts at byte `from` of the frame; Beyond where e names nothing
-abbrev pub point_in : Group → List ℕ → ℕ → ℕ → ℕ → Value
-point_in Unused stretch from n e = Refused Beyond
-point_in Bad stretch from n e = Refused Beyond
-point_in (Points r) stretch from n e =
-    cond (within 1 n e) (answered (value_in_stretch r stretch (e - 1)) (from + (e - 1) * r.size)) (Refused Beyond)
+-- point e of the stretch of a group, which starts at byte `from` of the frame; Beyond where e names nothing
+abbrev pub point_in : Group → List ℕ → ℕ → ℕ → Value
+point_in Unused stretch from e = Refused Beyond
+point_in Bad stretch from e = Refused Beyond
+point_in (Points q) stretch from e =
+    cond (within 1 q.count e) (answered (value_in_stretch q.row stretch (e - 1)) (from + (e - 1) * q.row.size)) (Refused Beyond)
 
 -- a text's place counts the frame's bytes from 0, and so from before the record
 abbrev pub point_found : Result ℕ Refusal → List ℕ → List ℕ → ℕ → ℕ → Value
 point_found (Ok size) gs f g e =
-    point_in (group_named gs g) (stretch_part gs (record_part f size) g) (record_at + stretch_from gs g) (count_at gs (g - 1)) e
+    point_in (group_named gs g) (stretch_part gs (record_part f size) g) (record_at + stretch_from gs g) e
 point_found (Err refusal) gs f g e = Refused refusal
 
 unfoldable pub point_value : List ℕ → Bool → List ℕ → ℕ → ℕ → Value

@@ -9,7 +9,7 @@ use Rattle.modbus.specs.Crc.{ends_in_crc}
 use Rattle.modbus.specs.Frame.{good_unit}
 use Rattle.points.specs.declared.groups.Group.{Group}
 use Rattle.points.specs.declared.groups.Group.TheVariants.{Unused, Points, Bad}
-use Rattle.points.specs.Groups.{judged, group_at, count_at, group_size, groups_size, record_size}
+use Rattle.points.specs.Groups.{judged, group_at, group_size, groups_size, record_size}
 use Rattle.records.specs.Stamp.{in_range, stamp_from}
 
 -- a refusal stands; else what comes next, by what was found
@@ -62,7 +62,7 @@ group_named gs g = cond (within 1 16 g) (group_at gs (g - 1)) Unused
 abbrev pub place_checked : Group → ℕ → Result ℕ Refusal
 place_checked Unused size = Err Beyond
 place_checked Bad size = Err Beyond
-place_checked (Points r) size = Ok size
+place_checked (Points q) size = Ok size
 
 unfoldable pub stretch_checked : List ℕ → Bool → List ℕ → ℕ → Result ℕ Refusal
 stretch_checked gs d f g = and_then (frame_checked gs d f) (place_checked (group_named gs g))
@@ -72,7 +72,7 @@ abbrev pub stretch_from : List ℕ → ℕ → ℕ
 stretch_from gs g = 6 + groups_size gs (g - 1)
 
 abbrev pub stretch_length : List ℕ → ℕ → ℕ
-stretch_length gs g = group_size (group_at gs (g - 1)) (count_at gs (g - 1))
+stretch_length gs g = group_size (group_at gs (g - 1))
 
 -- the stretch is that part of the record bs
 abbrev pub stretch_part : List ℕ → List ℕ → ℕ → List ℕ

@@ -5,9 +5,9 @@ use Rattle.basics.specs.Card.{done_no}
 use Rattle.modbus.specs.Frame.{read_reply}
 use Rattle.points.specs.declared.table.Kind.{Kind}
 use Rattle.points.specs.declared.table.Kind.TheVariants.{Boolean, Int16, Text8, Int32, Float, Text16}
-use Rattle.points.specs.declared.table.Row.{Row}
+use Rattle.points.specs.declared.table.Run.{Run}
 use Rattle.points.specs.declared.groups.Group.TheVariants.{Points}
-use Rattle.points.specs.Groups.{group_at, first_point_at, count_at}
+use Rattle.points.specs.Groups.{group_at}
 use Rattle.records.specs.declared.stamp.Stamp.{Stamp}
 use Rattle.records.specs.Record.{record_of}
 use Rattle.records.specs.Value.{PointValue, flag, int16, int32, float, text, signed, value_in_table}
@@ -43,7 +43,7 @@ pub record GetsBack (unit size : ℕ) (d : Bool) (s : Stamp) (t gs : List ℕ) :
   pub stamp : stamp_answer gs d (record_reply unit d s t gs) ≡ told_of_stamp (Ok s)
   -- at every place and point the answer is done, its kind is the row's, and its numbers tell the value that the point was captured with, of
   -- a text the cleaned one
-  pub point : (g e : ℕ) (r : Row) → 1 ≤ g → g ≤ 16 → group_at gs (g - 1) ≡ Points r → 1 ≤ e → e ≤ count_at gs (g - 1) →
+  pub point : (g e : ℕ) (q : Run) → 1 ≤ g → g ≤ 16 → group_at gs (g - 1) ≡ Points q → 1 ≤ e → e ≤ q.count →
       let answer = point_answer (point_value gs d (record_reply unit d s t gs) g e) in
-      (answer.number ≡ done_no) × (answer.kind ≡ kind_number r.kind)
-      × (told_by (record_reply unit d s t gs) answer ≡ value_in_table t r (first_point_at gs (g - 1) + (e - 1)))
+      (answer.number ≡ done_no) × (answer.kind ≡ kind_number q.row.kind)
+      × (told_by (record_reply unit d s t gs) answer ≡ value_in_table t q.row (q.point + (e - 1)))

@@ -3,7 +3,7 @@ use Rattle.std.specs.Prelude.{List, Result, Ok, Err, ◌≡◌, Bool, ℕ, ◌+�
 use Rattle.basics.specs.declared.card.Refusal.{Refusal}
 use Rattle.points.specs.declared.groups.Group.TheVariants.{Points}
 use Rattle.points.specs.Table.{points_size}
-use Rattle.points.specs.Groups.{group_of, group_at, count_at}
+use Rattle.points.specs.Groups.{group_of, group_at}
 use Rattle.reader.specs.declared.stretch.Stretch.{Stretch}
 use Rattle.reader.specs.Frame.{record_at, record_part, stretch_checked, stretch_from, stretch_part}
 
@@ -12,8 +12,7 @@ pub record IsStretch (gs : List ℕ) (d : Bool) (f : List ℕ) (g : ℕ) (s : St
   pub size : ℕ
   pub checked : stretch_checked gs d f g ≡ Ok size
   pub place : (1 ≤ g) × (g ≤ 16)
-  pub group : group_at gs (g - 1) ≡ Points s.row
-  pub count : s.count ≡ count_at gs (g - 1)
+  pub group : group_at gs (g - 1) ≡ Points s.run
   pub from : s.from ≡ record_at + stretch_from gs g
   pub bytes : s.bytes.now ≡ stretch_part gs (record_part f size) g
 
@@ -24,7 +23,6 @@ FoundStretch gs d f g (Err refusal) = stretch_checked gs d f g ≡ Err refusal
 
 -- a stretch of a group, in a frame of at most 255 bytes
 pub record IsLent (s : Stretch) : Type 0 where
-  pub point : ℕ
-  pub grouped : group_of point s.count ≡ Points s.row
-  pub sized : length s.bytes.now ≡ points_size s.row s.count
+  pub grouped : group_of s.run.point s.run.count ≡ Points s.run
+  pub sized : length s.bytes.now ≡ points_size s.run.row s.run.count
   pub near : s.from + length s.bytes.now ≤ 255

@@ -3,7 +3,7 @@ use basics::card::{self, Refusal};
 use records::stamp::Stamp;
 
 // A part of the frame.
-// A place and a length, since C gets no reference: a slice would be turned into them at once.
+// A place and a length, since C gets no reference, and a slice does not tell at which byte of the frame it starts.
 #[derive(Clone, Copy, Debug, PartialEq, Eq)]
 pub struct Part {
     pub place: u32,
@@ -11,7 +11,8 @@ pub struct Part {
 }
 
 // The value of a point, a case a kind, a text by its part of the frame; or a refusal.
-// One enum, a case a kind and one for the refusal, is a form that the project asks for; so no Result stands around it.
+// One enum, a case a kind and one for the refusal, is a form that the project asks for; so no Result stands around it. A float is the
+// 32 bits that the record has: they may be a NaN's, which `f32::from_bits` does not take in Rattle.
 #[derive(Clone, Copy, Debug, PartialEq, Eq)]
 pub enum Value {
     Flag(bool),
@@ -23,7 +24,8 @@ pub enum Value {
 }
 
 // The three answers are C's: its header fixes the fields, and an exported function can answer no enum. What does not count is 0, written
-// out, so that each answer shows what C finds in it.
+// out: `..Default::default()` is shorter, but hides what C finds in an answer.
+
 // A part of the frame, or a refusal with a part of no length.
 #[repr(C)]
 #[derive(Clone, Copy, Debug, PartialEq, Eq)]

@@ -7,6 +7,4 @@ pub mod frame;
 pub mod stretch;
 pub mod value;
 
-pub use frame::{find_record, read_stamp};
-pub use stretch::find_stretch;
-pub use value::read_point;
+pub use frame::Reply;

@@ -7,6 +7,7 @@ ghost use Rattle.modbus.specs.Crc.{crc_of};
 ghost use Rattle.reader.specs.Answers.{record_answer, stamp_answer, stretch_answer, point_answer, point_value};
 
 use modbus::crc::crc_of;
+use reader::Reply;
 use reader::answers::{PartAnswer, PointAnswer, StampAnswer};
 
 // The record: its place and length in the frame.
@@ -15,7 +16,12 @@ use reader::answers::{PartAnswer, PointAnswer, StampAnswer};
 pub extern "C" fn windrow_reader_record(groups: &[u16], day_first: bool, frame: &[u8]) -> PartAnswer
     ensures { result ≡ record_answer groups.now day_first frame.now }
 {
-    reader::find_record(groups, day_first, frame).into()
+    let reply = Reply {
+        groups,
+        day_first,
+        frame,
+    };
+    reply.find_record().into()
 }
 
 // The record's stamp: month, day, year, hour, minute, second, whatever the date order.
@@ -24,7 +30,12 @@ pub extern "C" fn windrow_reader_record(groups: &[u16], day_first: bool, frame: 
 pub extern "C" fn windrow_reader_stamp(groups: &[u16], day_first: bool, frame: &[u8]) -> StampAnswer
     ensures { result ≡ stamp_answer groups.now day_first frame.now }
 {
-    reader::read_stamp(groups, day_first, frame).into()
+    let reply = Reply {
+        groups,
+        day_first,
+        frame,
+    };
+    reply.read_stamp().into()
 }
 
 // The stretch of place g, counted from 1: its place and length in the frame.
@@ -38,7 +49,12 @@ pub extern "C" fn windrow_reader_stretch(
 ) -> PartAnswer
     ensures { result ≡ stretch_answer groups.now day_first frame.now g }
 {
-    reader::find_stretch(groups, day_first, frame, g).into()
+    let reply = Reply {
+        groups,
+        day_first,
+        frame,
+    };
+    reply.find_stretch(g).into()
 }
 
 // Point e of place g, both counted from 1.
@@ -52,7 +68,12 @@ pub extern "C" fn windrow_reader_point(
 ) -> PointAnswer
     ensures { result ≡ point_answer (point_value groups.now day_first frame.now g e) }
 {
-    reader::read_point(groups, day_first, frame, g, e).into()
+    let reply = Reply {
+        groups,
+        day_first,
+        frame,
+    };
+    reply.read_point(g, e).into()
 }
 
 // The CRC of a request that a driver makes, or of any other bytes; a frame carries its low byte first.

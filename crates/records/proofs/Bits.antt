@@ -12,6 +12,7 @@ use Prim.Native.Nat.{ℕ, zero, suc, ◌+◌, ◌-◌, ◌*◌, ◌/◌, ◌%◌
 use native.Mathlib.Nat.{add_assoc, pow-suc, one-mul, mul_assoc, mod-one, mod-eq_of_lt, div-one, mul-le-mul_right, not-suc-le-zero, eq-or-lt_of_le, le_of_suc-le-suc}
 use native.Mathlib.Numerals.{one-add}
 use native.Mathlib.Omega.{arith}
+use lib.Bits.{and_mask}
 use lib.Dec.{lit<}
 use lib.ListN.{length, get_or}
 use lib.Pow.{shl_exact, shr-shr, high, low, mod-pow-add, field, mod-mod-pow}
@@ -105,3 +106,6 @@ packed-window t offset first n i =
     ap from_bits
     (tabulate-part n (8 * i) 8 (λ e. flag_at t offset (first + e))
     ∙ tabulate-ext (min 8 (n - 8 * i)) _ _ (λ j h. ap (flag_at t offset) (sym (add_assoc first (8 * i) j))))
+
+-- the m lowest bits by a mask
+pub ruleset mask_laws = (mask-of, and_mask)

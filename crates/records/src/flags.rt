@@ -1,4 +1,5 @@
 // Booleans repacked from the live table's alignment to the group's own.
+// A lent part, of archive memory or of the reply buffer, is handed on from writer to writer, piece by piece: a form that the project asks for.
 ghost use Rattle.std.specs.Prelude.{◌≡◌, ◌+◌, ◌/◌, ◌%◌, ◌^◌, ◌<◌, ◌≤◌, length};
 ghost use Rattle.basics.specs.Lists.{tabulate};
 ghost use Rattle.points.specs.Table.{packed_size};
@@ -6,6 +7,7 @@ ghost use Rattle.records.specs.Capture.{from_bits, flags, packed_byte};
 ghost use Rattle.records.specs.Lent.{LentFlags};
 
 // The m lowest bits of a word, by a mask.
+#[tactic(auto, using(crate::proofs::Bits::mask_laws))]
 fn low_bits(word: u16, m: u16) -> u8
     requires { m ≤ 8 }
     ensures { result ≡ word % 2 ^ m }
@@ -27,6 +29,7 @@ fn window(table: &[u8], offset: usize, at: usize, m: u16) -> u8
 }
 
 // Writes n Booleans from number `first` of the row at byte `offset` on, eight to a byte, into a part of their size.
+#[tactic(auto, using(basics::proofs::Lists::filled_none))]
 pub fn write_flags(part: &mut [u8], table: &[u8], offset: usize, first: usize, n: usize)
     requires { LentFlags part.old table.now offset first n }
     ensures { part.new ≡ tabulate (packed_size n) (packed_byte (flags table.now offset first n)) }

@@ -2,6 +2,7 @@
 #![tactic(auto)]
 
 pub mod alarm;
+pub mod event;
 pub mod flags;
 pub mod moment;
 pub mod record;
