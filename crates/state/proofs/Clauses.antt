@@ -3,16 +3,16 @@
 --     site-split, site-join      a valid site: its unit and its firmware
 --     state-taken, state-takes   neither Memory (1) nor Foreign (2) applies
 --     bad_files                  laid-out definitions that are not good make the state one that is not valid
---     within-split, within-join  numbers within their limits, one by one
-use mathlib.Core.Path.{◌≡◌, refl}
+--     within_split, within_join  numbers within their limits, one by one
+use mathlib.Core.Path.{◌≡◌}
 use mathlib.Core.List.{List}
-use mathlib.Core.Bool.{Bool, true, false, cond, not, ◌&&◌}
+use mathlib.Core.Bool.{true, false}
 use Prim.Native.Nat.{ℕ, ◌≤◌, ◌<◌}
 use native.Mathlib.Omega.{arith}
-use borrow.Author.Tests.{eqb-true, eq-eqb, leb-true, le-leb}
-use lib.Dec.{eqb, leb}
+use borrow.Author.Tests.{eq-eqb, leb-true, le-leb}
+use lib.Dec.{leb}
 use lib.ListN.{get_or}
-use Rattle.basics.proofs.Tests.{and_left, and_right}
+use Rattle.std.proofs.lemmas.Grind.{common_steps}
 use Rattle.modbus.specs.Frame.{good_unit}
 use Rattle.archive.specs.Layout.{Layout, good_files, has_room, limit_of, all_files}
 use Rattle.archive.specs.Alarms.{good_slots}
@@ -35,32 +35,9 @@ pub record Clauses (s : State) : Type 0 where
   pub requested : within_limits s.line.requested (laid_out s) ≡ true
   pub site : site_valid s.site ≡ true
 
-both : (a b : Bool) → (a && b) ≡ true → (a ≡ true) × (b ≡ true)
-both a b h = (and_left a b h, and_right a b h)
-
 pub valid-split : (s : State) → valid s ≡ true → Clauses s
 unfolding valid settings_valid files_valid
-valid-split s v =
-    let l = laid_out s in
-    let one = both (flags_valid s.flags) _ v in
-    let two = both (settings_valid s.settings) _ one.1 in
-    let three = both (files_valid l s.site.archive_length s.files.pointers s.line.requested) _ two.1 in
-    let drafts = both (good_files s.settings.draft.groups) _ two.0 in
-    let settings = both (good_triggers s.settings.triggers) (good_slots s.settings.slots) drafts.1 in
-    let laid = both (good_files s.files.layout.groups) _ three.0 in
-    let room = both (has_room l s.site.archive_length) _ laid.1 in
-    let numbers = both (within_limits s.files.pointers l) (within_limits s.line.requested l) room.1 in
-    record {
-      flags = one.0;
-      drafts = drafts.0;
-      triggers = settings.0;
-      slots = settings.1;
-      laid = laid.0;
-      room = room.0;
-      pointers = numbers.0;
-      requested = numbers.1;
-      site = three.1;
-    }
+valid-split s v = grind (arith, common_steps)
 
 pub valid-join : (s : State) → Clauses s → valid s ≡ true
 unfolding valid settings_valid files_valid
@@ -69,7 +46,7 @@ valid-join s k =
 
 pub site-split : (site : Site) → site_valid site ≡ true → (good_unit site.unit ≡ true) × (good_firmware site.firmware ≡ true)
 unfolding site_valid
-site-split site v = both (good_unit site.unit) (good_firmware site.firmware) v
+site-split site v = grind (arith, common_steps)
 
 pub site-join : (site : Site) → good_unit site.unit ≡ true → good_firmware site.firmware ≡ true → site_valid site ≡ true
 unfolding site_valid
@@ -78,13 +55,7 @@ site-join site unit firmware = simp (unit, firmware)
 -- ---- a state that is not refused
 pub state-taken : (s : State) (size : ℕ) → state_number s size ≡ 0 → (size ≡ s.site.archive_length) × (valid s ≡ true)
 unfolding state_number
-state-taken s size taken = go (eqb size s.site.archive_length) (valid s) refl taken
-  where
-    go : (a b : Bool) → eqb size s.site.archive_length ≡ a → ◌≡◌ {A = ℕ} (cond (not a) 1 (cond (not b) 2 0)) 0 →
-        (size ≡ s.site.archive_length) × (b ≡ true)
-    go false b same q = absurd (omega (arith, q))
-    go true false same q = absurd (omega (arith, q))
-    go true true same q = (eqb-true _ _ same, refl)
+state-taken s size taken = grind (arith, common_steps)
 
 pub state-takes : (s : State) (size : ℕ) → size ≡ s.site.archive_length → valid s ≡ true → state_number s size ≡ 0
 unfolding state_number
@@ -93,18 +64,13 @@ state-takes s size same v = simp (eq-eqb _ _ same, v)
 -- ---- a part that fails makes the whole fail
 pub bad_files : (s : State) → good_files s.files.layout.groups ≡ false → valid s ≡ false
 unfolding valid files_valid
-bad_files s bad = go (flags_valid s.flags) (settings_valid s.settings)
-  where
-    go : (a b : Bool) → (a && (b && ((good_files s.files.layout.groups && (has_room (laid_out s) s.site.archive_length && (within_limits s.files.pointers (laid_out s) && within_limits s.line.requested (laid_out s)))) && site_valid s.site))) ≡ false
-    go true true = simp bad
-    go true false = refl
-    go false b = refl
+bad_files s bad = grind (arith, common_steps)
 
 -- ---- numbers within their limits
-pub within-split : (numbers : List ℕ) (l : Layout) → within_limits numbers l ≡ true → (f : ℕ) → f < all_files → get_or numbers f 0 ≤ limit_of l f
+pub within_split : (numbers : List ℕ) (l : Layout) → within_limits numbers l ≡ true → (f : ℕ) → f < all_files → get_or numbers f 0 ≤ limit_of l f
 unfolding within_limits
-within-split numbers l holds f below = leb-true _ _ (every-at (λ i. leb (get_or numbers i 0) (limit_of l i)) all_files f holds below)
+within_split numbers l holds f below = leb-true _ _ (every-at (λ i. leb (get_or numbers i 0) (limit_of l i)) all_files f holds below)
 
-pub within-join : (numbers : List ℕ) (l : Layout) → ((f : ℕ) → f < all_files → get_or numbers f 0 ≤ limit_of l f) → within_limits numbers l ≡ true
+pub within_join : (numbers : List ℕ) (l : Layout) → ((f : ℕ) → f < all_files → get_or numbers f 0 ≤ limit_of l f) → within_limits numbers l ≡ true
 unfolding within_limits
-within-join numbers l each = every-all (λ i. leb (get_or numbers i 0) (limit_of l i)) all_files (λ f below. le-leb _ _ (each f below))
+within_join numbers l each = every-all (λ i. leb (get_or numbers i 0) (limit_of l i)) all_files (λ f below. le-leb _ _ (each f below))

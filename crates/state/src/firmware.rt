@@ -2,7 +2,7 @@
 ghost use Rattle.std.specs.Prelude.{◌≡◌};
 ghost use Rattle.state.specs.Firmware.{good_firmware, alarm_depth};
 
-// Numbers and no enum: C hands a firmware in and stores it as a number, and every call judges the stored one again.
+// The firmwares in use. Numbers and no enum: C hands a firmware in and stores it as a number, and every call judges the stored one again.
 const OLDER_FIRMWARE: u32 = 73;
 
 const NEWER_FIRMWARE: u32 = 74;

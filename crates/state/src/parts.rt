@@ -1,5 +1,6 @@
 // The gateway's state, in parts by what writes them. A call changes it where it stands; C hands it in and gets it back by value. The
-// parts leave no padding byte, so that a stored state can be compared and summed byte by byte.
+// parts leave no padding byte, so that a stored state can be compared and summed byte by byte. C's header fixes the fields: an array by file
+// for each thing that a file has, and a bool beside what counts where it is on.
 ghost use Rattle.std.specs.Prelude.{◌≡◌};
 ghost use Rattle.state.specs.State.{fresh_state};
 

@@ -51,7 +51,8 @@ fn are_triggers_good(triggers: &[u16; 10]) -> bool
 }
 
 // Whether an alarm slot's three fields keep their rules, even when it is off.
-// The type is C's number: an enum could not hold one that is against the rule. The tests are joined by `&`, without a branch, since the
+// Three numbers as C hands them in or a slot has them, and the type among them: an enum could not hold one that is against the rule, and a
+// Slot of 16 bits each is made once they are judged. The tests are joined by `&`, without a branch, since the
 // loop over the slots asks all of them nearly always.
 #[tactic(auto, unfolding(archive::specs::Alarms::good_slot))]
 pub fn is_slot_good(point: u32, kind: u32, transducer: u32) -> bool
@@ -60,7 +61,8 @@ pub fn is_slot_good(point: u32, kind: u32, transducer: u32) -> bool
     is_boolean_or_none(point) & ((kind <= 3) & is_float_or_none(transducer))
 }
 
-// Whether each of the 32 slots keeps its rules. Nearly always all do, so the loop has no early end.
+// Whether each of the 32 slots keeps its rules. Nearly always all do, so the loop has no early end: with `all` a Lock takes an eighth longer.
+#[tactic(auto, using(crate::proofs::Every::every_steps), unfolding(archive::specs::Alarms::good_slots))]
 fn are_slots_good(slots: &[Slot; 32]) -> bool
     ensures { result ≡ good_slots slots.now }
 {
@@ -75,7 +77,7 @@ fn are_slots_good(slots: &[Slot; 32]) -> bool
     good
 }
 
-// Whether 32 numbers keep the rules of a definition. It is seldom asked, and not put into its caller, which would make room for ten.
+// Whether 32 numbers keep the rules of a definition. It is seldom asked, and so is not put into its caller.
 #[tactic(auto, unfolding(archive::specs::Layout::is_good))]
 #[inline(never)]
 fn is_definition_good(groups: &[u16; 32]) -> bool
@@ -85,13 +87,13 @@ fn is_definition_good(groups: &[u16; 32]) -> bool
 }
 
 // Whether two definitions are the same. The loop looks at all numbers, so that it runs many at a time: `==` ends at the first that
-// differs, and each call takes a tenth longer with it. One index goes for both, as the contract goes by places.
+// differs, and each call takes a tenth longer with it.
 fn are_same(a: &[u16; 32], b: &[u16; 32]) -> bool
     ensures { result ≡ every 32 (λ k. eqb (get_or a.now k 0) (get_or b.now k 0)) }
 {
     let mut same = true;
-    for (k, number) in a.iter().enumerate() {
-        same &= *number == b[k];
+    for (x, y) in a.iter().zip(b) {
+        same &= *x == *y;
     }
     same
 }
@@ -106,6 +108,7 @@ fn is_draft_good(draft: &[u16; 32], laid: &[u16; 32]) -> bool
 
 // Whether all drafted definitions keep their rules, where the laid-out ones do.
 // That these do is asked, since the files' layout has shown it: no type marks good numbers, which C stores as they are.
+#[tactic(auto, using(crate::proofs::Every::every_steps, crate::proofs::Every::good_at), unfolding(archive::specs::Layout::good_files))]
 fn are_drafts_good(drafts: &Definitions, laid: &Definitions) -> bool
     requires { good_files laid.now.groups ≡ true }
     ensures { result ≡ good_files drafts.now.groups }
@@ -132,16 +135,13 @@ impl Settings {
 }
 
 // Whether no pointer, or no requested number, is over its file's n.
-// A loop and no `zip` and `all`: its contract speaks of every layout, which a closure has no clause for.
 fn are_within(numbers: &[u16; FILES], files: &[File; FILES]) -> bool
     ensures { (l : Layout) → LaidOut l files.now → result ≡ within_limits numbers.now l }
 {
-    for (f, file) in files.iter().enumerate() {
-        if file.limit < numbers[f] {
-            return false;
-        }
-    }
-    true
+    numbers
+        .iter()
+        .zip(files)
+        .all(|(number, file)| *number <= file.limit)
 }
 
 impl Files {

@@ -1,30 +1,12 @@
-use mathlib.Core.Path.{sym, ap}
-use Prim.Native.Nat.{◌<◌}
-use native.Mathlib.Omega.{arith}
-use lib.Dec.{leb}
-use lib.ListN.{get_or}
-use borrow.Author.Tests.{lt-leb}
-use Rattle.archive.specs.declared.layout.File.{File}
-use Rattle.archive.specs.Layout.{limit_of}
-use Rattle.archive.proofs.Layouts.{every-fails}
-use Rattle.state.specs.Validity.{within_limits}
-use Rattle.state.proofs.Clauses.{within-join}
+use Rattle.std.proofs.Common.{rules, tests, ◌∙◌}
+use Rattle.std.proofs.lemmas.Iterator.{YieldsList-from_slice, YieldsList-from_zip}
+use Rattle.std.proofs.lemmas.Iterator.Search.{all_from_yields_List}
+use Rattle.state.proofs.Every.{is_within, zipped_within}
 use Rattle.state.proofs.validity.are_within.Goals as goal
-
-pub returns-then-file-numbers : goal.returns-then-file-numbers
-unfolding within_limits
-returns-then-file-numbers c =
-    let a = c.args in
-    let f = c.loop-f.f in
-    λ l laid.
-    let below : f < 11 = omega arith in
-    let limit = ap (λ (x : File). x.limit) (laid.each f below) in
-    sym (every-fails (λ k. leb (get_or a.numbers.now k 0) (limit_of l k)) 11 f below (lt-leb _ _ (omega (arith, limit, c.if-file-numbers.true))))
 
 pub returns : goal.returns
 returns c =
     let a = c.args in
-    let at = c.loop-f in
     λ l laid.
-    sym (within-join a.numbers.now l
-    (λ f below. let limit = ap (λ (x : File). x.limit) (laid.each f below) in omega (arith, limit, at.invariant f (omega (arith, below)))))
+    all_from_yields_List is_within c.all.new.self _ c.all.result c.all.ensures.ran (YieldsList-from_zip (YieldsList-from_slice a.numbers.now cc) (YieldsList-from_slice a.files.now cc)) (λ x b q k. search (rules, tests))
+    ∙ zipped_within a.numbers.now a.files.now l (search rules) laid
