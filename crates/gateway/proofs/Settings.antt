@@ -5,12 +5,14 @@
 --     start-empties, start-keeps    a pending Start that is done leaves memory of zeros and every list empty; any other leaves memory
 --     start-refused, start-length   a refused Start leaves memory, and any Start its length
 --     fresh-made, fresh-refused, fresh-length    Fresh done, refused, and the length of memory after it
-use mathlib.Core.Path.{◌≡◌, refl, sym}
+use mathlib.Core.Path.{◌≡◌, refl}
 use mathlib.Core.List.{List}
-use mathlib.Core.Bool.{Bool, true, false, cond, not, ◌&&◌, false≢true}
+use mathlib.Core.Bool.{Bool, true, false, cond, not, ◌&&◌}
 use Prim.Native.Nat.{ℕ, ◌-◌}
 use lib.Dec.{eqb}
 use lib.ListN.{length, replicate, length-replicate, set}
+use native.Mathlib.Omega.{arith}
+use Rattle.std.proofs.lemmas.Grind.{common_steps}
 use borrow.Author.Tests.{eqb-true, not-false}
 use Rattle.points.specs.Table.{boolean_or_none}
 use Rattle.points.specs.Groups.{judged_card}
@@ -142,25 +144,12 @@ start-empties s m taken pending fits = (simp (taken, pending, fits), simp (taken
 
 pub start-keeps : (s : State) (m : List ℕ) → s.flags.pending ≡ false → start_memory s m ≡ m
 unfolding start_memory
-start-keeps s m settled_now = go (eqb (state_number s (length m)) 0) s.flags.pending settled_now
-  where
-    go : (b p : Bool) → p ≡ false → cond (b && (p && draft_fits s)) (replicate (length m) 0) m ≡ m
-    go b true q = absurd (false≢true (sym q))
-    go true false q = refl
-    go false false q = refl
+start-keeps s m settled_now = grind (arith, common_steps)
 
 -- a refused Start leaves memory: Memory (1), Foreign (2), Room (11)
 pub start-refused : (s : State) (m : List ℕ) → ((start_answer s (length m)).number ≡ 0 → ⊥) → start_memory s m ≡ m
 unfolding start_answer start_memory
-start-refused s m refused = go (eqb (state_number s (length m)) 0) s.flags.pending (draft_fits s) refused
-  where
-    go : (b p f : Bool) →
-        ((cond b (cond p (cond f (done (restarted s)) (told s 11 0)) (done (with_flags s true false s.flags.pending))) (told s (state_number s (length m)) 0)).number ≡ 0 → ⊥) →
-        cond (b && (p && f)) (replicate (length m) 0) m ≡ m
-    go true true true some = absurd (some refl)
-    go true true false some = refl
-    go true false f some = refl
-    go false p f some = refl
+start-refused s m refused = grind (arith, common_steps)
 
 -- zeros or what was there
 same_length : (b : Bool) (m : List ℕ) → length (cond b (replicate (length m) 0) m) ≡ length m
@@ -188,12 +177,7 @@ module _ (day_first : Bool) (unit firmware : ℕ) (m : List ℕ) where
   pub fresh-refused : ((fresh_answer day_first unit firmware (length m)).number ≡ 0 → ⊥) →
       ((fresh_answer day_first unit firmware (length m)).state ≡ zero_state) × (fresh_memory unit firmware m ≡ m)
   unfolding fresh_answer fresh_memory
-  fresh-refused refused = go (eqb number 0) refused
-    where
-      go : (b : Bool) → ((cond b (done made) (told zero_state number 0)).number ≡ 0 → ⊥) →
-          ((cond b (done made) (told zero_state number 0)).state ≡ zero_state) × (cond b (replicate (length m) 0) m ≡ m)
-      go true some = absurd (some refl)
-      go false some = (refl, refl)
+  fresh-refused refused = grind (arith, common_steps)
 
 pub fresh-length : (unit firmware : ℕ) (m : List ℕ) → length (fresh_memory unit firmware m) ≡ length m
 unfolding fresh_memory

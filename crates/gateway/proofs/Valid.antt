@@ -7,19 +7,20 @@ use mathlib.Core.List.{List}
 use mathlib.Core.Bool.{Bool, true, false, not, ◌&&◌}
 use Prim.Native.Nat.{ℕ, ◌+◌, ◌-◌, ◌*◌, ◌≤◌}
 use native.Mathlib.Omega.{arith}
+use borrow.Author.Rules.{rules}
 use borrow.Author.Tests.{le-leb}
 use lib.ListN.{get_or, set, replicate, get_or-replicate}
 use Rattle.points.specs.Table.{boolean_or_none, float_or_none}
 use Rattle.points.specs.Groups.{judged_card, judged, first_bad, record_size, groups_size, group_of, unused}
 use Rattle.archive.specs.declared.alarms.Slot.{Slot}
-use Rattle.archive.specs.Layout.{Layout, every, is_good, good_files, all_files, alarm_size, idle_files, redefined, layout_of, limit_of, size_of, base_of, layout_size, has_room}
+use Rattle.archive.specs.Layout.{Layout, every, is_good, good_files, all_files, alarm_size, idle_files, layout_of, limit_of, size_of, base_of, layout_size, has_room}
 use Rattle.archive.specs.Alarms.{off_slot, slot_count, good_slot, good_slot_at, good_slots}
 use Rattle.archive.proofs.Layouts.{every-at, every-all, set_holds}
 use Rattle.state.specs.declared.parts.State.{State}
 use Rattle.state.specs.Firmware.{alarm_depth, least_memory}
-use Rattle.state.specs.State.{fresh_state, with_flags, with_draft, with_triggers, with_slots, restarted, drafted}
+use Rattle.state.specs.State.{fresh_state, with_flags, drafted}
 use Rattle.state.specs.Validity.{good_triggers, within_limits, valid}
-use Rattle.state.proofs.Clauses.{valid-split, valid-join, site-join, within-join}
+use Rattle.state.proofs.Clauses.{valid-split, valid-join, site-join, within_join}
 use Rattle.gateway.specs.declared.calls.Answer.{Answer}
 use Rattle.gateway.specs.Calls.{told, unlock_answer, lock_answer, stop_answer, trigger_answer, alarm_answer, define_answer, start_answer, most_memory, fresh_number}
 use Rattle.basics.proofs.Tests.{within-inside}
@@ -32,17 +33,7 @@ flags-valid : (s : State) (running unlocked pending : Bool) → not (running && 
     valid (with_flags s running unlocked pending) ≡ true
 flags-valid s running unlocked pending apart v =
     let k = valid-split s v in
-    valid-join (with_flags s running unlocked pending) (record {
-      flags = apart;
-      drafts = k.drafts;
-      triggers = k.triggers;
-      slots = k.slots;
-      laid = k.laid;
-      room = k.room;
-      pointers = k.pointers;
-      requested = k.requested;
-      site = k.site;
-    })
+    search (rules, valid-join)
 
 not-both : (a : Bool) → not (a && false) ≡ true
 not-both true = refl
@@ -51,7 +42,7 @@ not-both false = refl
 -- ---- empty lists
 -- a pointer or requested number of 0 is within any limit
 pub zeros_within : (l : Layout) → within_limits (replicate all_files 0) l ≡ true
-zeros_within l = within-join (replicate all_files 0) l (λ f below. omega (arith, get_or-replicate {A = ℕ} all_files f 0 0 below))
+zeros_within l = within_join (replicate all_files 0) l (λ f below. omega (arith, get_or-replicate {A = ℕ} all_files f 0 0 below))
 
 judged-is-good : (gs : List ℕ) → (judged_card gs).number ≡ 0 → is_good gs ≡ true
 unfolding is_good
@@ -99,17 +90,7 @@ module _ (s : State) (size : ℕ) where
       let k = valid-split s v in
       let set-good = every-all (λ i. boolean_or_none (get_or (set s.settings.triggers (f - 1) p) i 0)) 10 (λ i below.
       set_holds boolean_or_none s.settings.triggers (f - 1) i p 0 good (every-at (λ j. boolean_or_none (get_or s.settings.triggers j 0)) 10 i k.triggers below)) in
-      valid-join (with_triggers s (set s.settings.triggers (f - 1) p)) (record {
-        flags = k.flags;
-        drafts = k.drafts;
-        triggers = set-good;
-        slots = k.slots;
-        laid = k.laid;
-        room = k.room;
-        pointers = k.pointers;
-        requested = k.requested;
-        site = k.site;
-      }))
+      search (rules, valid-join))
 
   pub alarm-valid : (k point kind transducer : ℕ) → Stays s (alarm_answer s size k point kind transducer)
   unfolding good_slots
@@ -119,50 +100,20 @@ module _ (s : State) (size : ℕ) where
       let set-good = every-all (good_slot_at (set s.settings.slots (n - 1) entry)) 32 (λ i below.
       set_holds (λ slot. good_slot slot.point slot.kind slot.transducer) s.settings.slots (n - 1) i entry off_slot good
       (every-at (good_slot_at s.settings.slots) 32 i k.slots below)) in
-      valid-join (with_slots s (set s.settings.slots (n - 1) entry)) (record {
-        flags = k.flags;
-        drafts = k.drafts;
-        triggers = k.triggers;
-        slots = set-good;
-        laid = k.laid;
-        room = k.room;
-        pointers = k.pointers;
-        requested = k.requested;
-        site = k.site;
-      }))
+      search (rules, valid-join))
 
   pub start-valid : Stays s (start_answer s size)
   start-valid = by-start (Stays s) s size same
       (λ _ _ fits v.
       let k = valid-split s v in
-      valid-join (restarted s) (record {
-        flags = refl;
-        drafts = k.drafts;
-        triggers = k.triggers;
-        slots = k.slots;
-        laid = k.drafts;
-        room = fits;
-        pointers = zeros_within (drafted s);
-        requested = zeros_within (drafted s);
-        site = k.site;
-      }))
+      search (rules, valid-join, zeros_within (drafted s)))
       (λ _ none v. flags-valid s true false s.flags.pending refl v)
 
   pub define-valid : (f : ℕ) (gs : List ℕ) (n : ℕ) → Stays s (define_answer s size f gs n)
   define-valid f gs n = by-define (Stays s) s size same f gs n (λ _ file good v.
       let k = valid-split s v in
       let new = drafts-stay-good s.settings.draft.groups gs (f - 1) (omega (arith, within-inside 1 10 f file)) k.drafts (judged-is-good gs good) in
-      valid-join (with_draft s (redefined s.settings.draft (f - 1) gs n)) (record {
-        flags = k.flags;
-        drafts = new;
-        triggers = k.triggers;
-        slots = k.slots;
-        laid = k.laid;
-        room = k.room;
-        pointers = k.pointers;
-        requested = k.requested;
-        site = k.site;
-      }))
+      search (rules, valid-join))
 
 -- ---- Fresh
 pub fresh-valid : (day_first : Bool) (unit firmware size : ℕ) → fresh_number unit firmware size ≡ 0 →
@@ -170,15 +121,5 @@ pub fresh-valid : (day_first : Bool) (unit firmware size : ℕ) → fresh_number
 unfolding fresh_state
 fresh-valid day_first unit firmware size taken =
     let k = fresh-parts unit firmware size taken in
-    let l = layout_of idle_files (alarm_depth firmware) in
-    valid-join (fresh_state day_first unit firmware size) (record {
-      flags = refl;
-      drafts = idle-good;
-      triggers = no-triggers;
-      slots = no-slots;
-      laid = idle-good;
-      room = idle-fits (alarm_depth firmware) size (within-inside (least_memory firmware) most_memory size k.memory).0;
-      pointers = zeros_within l;
-      requested = zeros_within l;
-      site = site-join (fresh_state day_first unit firmware size).site k.ours k.known;
-    })
+    let fits = idle-fits (alarm_depth firmware) size (within-inside (least_memory firmware) most_memory size k.memory).0 in
+    search (rules, valid-join, idle-good, no-triggers, no-slots, zeros_within, site-join)

@@ -2,7 +2,6 @@
 // They are functions and no methods: an inherent impl belongs into the crate of its type, and a trait for one type says no more.
 // State and archive come as two: C stores the one and lends the other.
 ghost use Rattle.std.specs.Prelude.{◌≡◌, true, false, ◌-◌, MatchResult};
-ghost use Rattle.basics.specs.Card.{card_told};
 ghost use Rattle.basics.specs.Numbers.{within};
 ghost use Rattle.archive.specs.Alarms.{good_slot};
 ghost use Rattle.archive.specs.Layout.{defined_files};
@@ -23,32 +22,27 @@ pub struct Answer {
     pub state: State,
 }
 
-// What C is told of a call beside the state: the card's number, 0 for done, and the number that goes with it.
-#[derive(Clone, Copy, Debug, PartialEq, Eq)]
-pub struct Told {
-    pub number: u32,
-    pub carried: u32,
-}
-
-// The state is not told here: only one copy of it is made where the answer is built of it.
-pub fn told_of(outcome: Result<(), Refusal>) -> Told
-    ensures number { result.number ≡ (card_told outcome).number }
-    ensures carried { result.carried ≡ (card_told outcome).carried }
-{
-    match outcome {
-        Ok(()) => Told {
-            number: DONE,
-            carried: 0,
-        },
-        Err(refusal) => Told {
-            number: u32::from(refusal),
-            carried: refusal.carried(),
-        },
+impl Answer {
+    // What C is told of a call's outcome, with the state that the call leaves.
+    // The state is lent, so that its one copy is the answer's: handed by value, and put into each call by `#[inline(always)]`, a Define
+    // copies it once more and takes a fifth longer.
+    pub fn of(outcome: Result<(), Refusal>, state: &State) -> Answer
+        ensures { result ≡ answer_of outcome state.now }
+    {
+        let (number, carried) = match outcome {
+            Ok(()) => (DONE, 0),
+            Err(refusal) => (u32::from(refusal), refusal.carried()),
+        };
+        Answer {
+            number,
+            carried,
+            state: *state,
+        }
     }
 }
 
 // Lock: unlocked off.
-#[tactic(auto, using(crate::proofs::Answers::refused_first, crate::proofs::Answers::own_next), unfolding(crate::specs::Calls::lock_answer))]
+#[tactic(auto, unfolding(crate::specs::Calls::lock_answer))]
 pub fn lock(state: &mut State, archive: &[u8]) -> Result<(), Refusal>
     ensures { Locked state.old archive.now (answer_of result state.new) archive.now }
 {
@@ -59,7 +53,7 @@ pub fn lock(state: &mut State, archive: &[u8]) -> Result<(), Refusal>
 
 // Stop: running off.
 // It is no twin to share with Lock: a function that gets the field would be as long as the two are.
-#[tactic(auto, using(crate::proofs::Answers::refused_first, crate::proofs::Answers::own_next), unfolding(crate::specs::Calls::stop_answer))]
+#[tactic(auto, unfolding(crate::specs::Calls::stop_answer))]
 pub fn stop(state: &mut State, archive: &[u8]) -> Result<(), Refusal>
     ensures { Stopped state.old archive.now (answer_of result state.new) archive.now }
 {
@@ -69,7 +63,7 @@ pub fn stop(state: &mut State, archive: &[u8]) -> Result<(), Refusal>
 }
 
 // Unlock: unlocked and pending on, while not running.
-#[tactic(auto, using(crate::proofs::Answers::refused_first, crate::proofs::Answers::own_next), unfolding(crate::specs::Calls::unlock_answer))]
+#[tactic(auto, unfolding(crate::specs::Calls::unlock_answer))]
 pub fn unlock(state: &mut State, archive: &[u8]) -> Result<(), Refusal>
     ensures { Unlocked state.old archive.now (answer_of result state.new) archive.now }
 {
@@ -95,7 +89,7 @@ pub fn place_of(file: u32) -> Result<usize, Refusal>
 }
 
 // Trigger: the Boolean whose rise captures a record of a file, or 0 for none. It empties nothing.
-#[tactic(auto, using(crate::proofs::Answers::refused_first, crate::proofs::Answers::own_next, crate::proofs::Answers::point_small), unfolding(crate::specs::Calls::trigger_answer))]
+#[tactic(auto, using(crate::proofs::Answers::point_small), unfolding(crate::specs::Calls::trigger_answer))]
 pub fn trigger(state: &mut State, archive: &[u8], file: u32, point: u32) -> Result<(), Refusal>
     ensures { TriggerSet state.old archive.now file point (answer_of result state.new) archive.now }
 {
@@ -127,7 +121,7 @@ fn slot_of(point: u32, kind: u32, transducer: u32) -> Result<Slot, Refusal>
 }
 
 // Alarm: a slot's Boolean point (0 is off), type and float point.
-#[tactic(auto, using(crate::proofs::Answers::refused_first, crate::proofs::Answers::own_next), unfolding(crate::specs::Calls::alarm_answer))]
+#[tactic(auto, unfolding(crate::specs::Calls::alarm_answer))]
 pub fn alarm(
     state: &mut State,
     archive: &[u8],

@@ -1,4 +1,5 @@
 // The calls that make and lay out files: Fresh, Define and Start.
+// State and archive come as two: C stores the one and lends the other.
 ghost use Rattle.std.specs.Prelude.{◌≡◌, true, ◌≤◌, OnOk};
 ghost use Rattle.basics.specs.Card.{card, card_told};
 ghost use Rattle.archive.specs.Layout.{good_files, layout_of, has_room};
@@ -50,7 +51,7 @@ pub fn fresh(
 }
 
 // Define: replaces one file's draft. A layout is not touched before Start.
-#[tactic(auto, using(crate::proofs::Answers::refused_first, crate::proofs::Answers::own_next), unfolding(crate::specs::Calls::define_answer, crate::specs::Calls::definition_answer))]
+#[tactic(auto, unfolding(crate::specs::Calls::define_answer, crate::specs::Calls::definition_answer))]
 pub fn define(
     state: &mut State,
     archive: &[u8],
@@ -74,20 +75,21 @@ pub fn define(
 }
 
 // Whether drafted files fit archive memory of this length.
+// That the drafts keep their rules is asked, as the state's check has shown it: no type marks good numbers, which C stores as they are.
 #[tactic(auto, unfolding(archive::specs::Layout::has_room))]
 fn has_draft_room(draft: &Definitions, depth: u16, size: usize) -> bool
     requires { good_files draft.now.groups ≡ true }
     ensures { result ≡ has_room (layout_of draft.now depth) size }
 {
-    // a match: what `end_of` asks of the files is shown in its arm
+    // a match: `is_some_and` would have to say at its closure what `end_of` asks of the files
     match draft.files(depth) {
         Some(files) => end_of(&files) <= size,
         None => false,
     }
 }
 
-// Start: running on, unlocked off. Pending, it lays out the draft and empties every file.
-#[tactic(auto, using(crate::proofs::Answers::refused_first, crate::proofs::Answers::own_next, crate::proofs::Answers::refused_some, crate::proofs::Drafts::drafts_good), unfolding(crate::specs::Calls::start_answer, crate::specs::Calls::start_memory))]
+// Start: running on, unlocked off. Pending, a flag of the state, as C stores it, it lays out the draft and empties every file.
+#[tactic(auto, using(crate::proofs::Drafts::drafts_good), unfolding(crate::specs::Calls::start_answer, crate::specs::Calls::start_memory))]
 pub fn start(state: &mut State, archive: &mut [u8]) -> Result<(), Refusal>
     ensures { Started state.old archive.old (answer_of result state.new) archive.new }
 {

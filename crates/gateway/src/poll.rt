@@ -1,10 +1,11 @@
 // The poll: a frame answered in the reply buffer that it will be sent from.
+// State and archive come as two: C stores the one and lends the other.
 ghost use Rattle.std.specs.Prelude.{◌≡◌};
-ghost use Rattle.state.specs.declared.parts.State.{State};
-ghost use Rattle.gateway.specs.Poll.{poll_told, poll_answer_of, Polled};
+ghost use Rattle.gateway.specs.Poll.{poll_answer_of, Polled};
 
 use crate::live::whole_table;
 use basics::card::{DONE, Refusal};
+use polls::poll::Answered;
 use polls::view::View;
 use state::parts::State;
 
@@ -18,26 +19,21 @@ pub struct PollAnswer {
     pub state: State,
 }
 
-// What C is told of a poll beside the state: the card's number, and the reply's length.
-// The state is not in it: only one copy of it is made where the answer is built of it.
-#[derive(Clone, Copy, Debug, PartialEq, Eq)]
-pub struct PollTold {
-    pub number: u32,
-    pub length: u32,
-}
-
-pub fn told_of(outcome: Result<u32, Refusal>) -> PollTold
-    ensures { (state : State) → poll_told state result.number result.length ≡ poll_answer_of outcome state }
-{
-    match outcome {
-        Ok(length) => PollTold {
-            number: DONE,
+impl PollAnswer {
+    // What C is told of a poll's outcome, the reply's length, with the state that the poll leaves.
+    // The state is lent, as to `Answer::of`.
+    pub fn of(outcome: Result<u32, Refusal>, state: &State) -> PollAnswer
+        ensures { result ≡ poll_answer_of outcome state.now }
+    {
+        let (number, length) = match outcome {
+            Ok(length) => (DONE, length),
+            Err(refusal) => (u32::from(refusal), 0),
+        };
+        PollAnswer {
+            number,
             length,
-        },
-        Err(refusal) => PollTold {
-            number: u32::from(refusal),
-            length: 0,
-        },
+            state: *state,
+        }
     }
 }
 
@@ -46,6 +42,7 @@ const LEAST_BUFFER: usize = 256;
 
 // Poll: answers a frame of any length and content at the start of the reply buffer, from the archive or the live table, and tells the
 // reply's length, 0 for none. Bytes past the reply are left as they were.
+#[tactic(auto, using(crate::proofs::Polls::poll_lends), unfolding(crate::specs::Poll::poll_answer, crate::specs::Poll::poll_buffer, crate::specs::Poll::poll_number))]
 pub fn poll(
     state: &mut State,
     archive: &[u8],
@@ -69,9 +66,8 @@ pub fn poll(
         archive,
         table,
     };
-    let answered = view.answer(reply, frame);
-    // the array has a name first: stored from the field of another struct, it has no generated proof
-    let numbers = answered.requested;
-    state.line.requested = numbers;
-    Ok(answered.length as u32)
+    // taken apart first: stored from a field, as `answered.requested`, the array has no generated proof
+    let Answered { length, requested } = view.answer(reply, frame);
+    state.line.requested = requested;
+    Ok(length as u32)
 }
