@@ -25,7 +25,6 @@ use Rattle.state.specs.Validity.{valid, state_number}
 use Rattle.state.proofs.Clauses.{state-takes}
 use Rattle.gateway.specs.declared.calls.Answer.{Answer}
 use Rattle.gateway.specs.Calls.{told, settled, Reads, unlock_answer, lock_answer, stop_answer, trigger_answer, alarm_answer, definition_answer, define_answer}
-use Rattle.gateway.proofs.Answers.{own_next}
 use Rattle.gateway.proofs.Valid.{Stays, unlock-valid, lock-valid, stop-valid, trigger-valid, alarm-valid, define-valid}
 use Rattle.machine.specs.Machine.{Machine, layout, Call, unlock, lock, stop, define, trigger, alarm, card_for, does, step, Outcome, answered, outcome}
 use Rattle.machine.specs.View.{pointers_of, state_of}
@@ -77,7 +76,7 @@ module _ (M : Machine) (m : List ℕ) (good : Good M m) where
   none-applies = state-takes (state_of M) (length m) good.long good.sound
 
   pub own : (x : Answer) → settled (state_of M) (length m) x ≡ x
-  own x = sym (own_next (state_of M) (length m) x (ap (λ n. card n 0) (sym none-applies)))
+  own x = simp none-applies
 
   -- ---- a call that answers with a card, whose contract says this answer `a` and this memory `n`
   module _ (c : Call) (shown : outcome M c ≡ answered (card_for M c)) (a : Answer) (own-answer : a ≡ answer_by M c (card_for M c))
