@@ -2,46 +2,35 @@
 // tests/frames/expected.py computes the same lines apart from this program.
 #![tactic(auto)]
 
-ghost use Rattle.std.specs.Prelude.{◌≡◌, ◌+◌, ◌*◌, ◌≤◌, ◌<◌, ◌-◌, length, take};
+ghost use Rattle.std.specs.Prelude.{◌≡◌, ◌+◌, ◌-◌, ◌*◌, ◌^◌, ◌<◌, ◌≤◌, length, take};
 
 use modbus::crc::{crc_of, ends_in_crc};
 use std::io;
 
 // How many damaged copies of a frame were tried, and how many of them the frame check refused.
-#[derive(Clone, Copy, Debug, Default, PartialEq, Eq)]
+#[derive(Clone, Copy, Debug, PartialEq, Eq)]
 struct Tally {
-    tried: u64,
-    refused: u64,
+    tried: usize,
+    refused: usize,
 }
 
 impl Tally {
     // One copy more.
     fn count(&mut self, refused: bool)
-        requires { (self.old.tried < 1000) × (self.old.refused ≤ self.old.tried) }
+        requires { (self.old.tried < 2 ^ 64 - 1) × (self.old.refused ≤ self.old.tried) }
         ensures { (self.new.tried ≡ self.old.tried + 1) × (self.new.refused ≤ self.new.tried) }
     {
         self.tried += 1;
-        self.refused += u64::from(refused);
+        self.refused += usize::from(refused);
     }
 }
 
-// A frame's bytes at the start of an array.
-// An array and no Vec, as in the library, which has no heap: every function down to here asks that a frame has at most 16 bytes.
-fn copy_of(frame: &[u8]) -> [u8; 16]
-    requires { length frame.now ≤ 16 }
-{
-    let mut copy = [0; 16];
-    copy[..frame.len()].copy_from_slice(frame);
-    copy
-}
-
 // Whether a frame is refused with one bit flipped; bits count from the lowest of the first byte.
-fn refused_flipped(frame: &[u8], bit: usize) -> bool
-    requires { (length frame.now ≤ 16) × (bit < 8 * length frame.now) }
+fn refused_flipped<const N: usize>(mut frame: [u8; N], bit: usize) -> bool
+    requires { bit < 8 * N }
 {
-    let mut copy = copy_of(frame);
-    copy[bit / 8] ^= 1 << (bit % 8);
-    !ends_in_crc(&copy[..frame.len()])
+    frame[bit / 8] ^= 1 << (bit % 8);
+    !ends_in_crc(&frame)
 }
 
 // Whether a frame is refused with its last byte cut off.
@@ -50,13 +39,11 @@ fn refused_cut(frame: &[u8]) -> bool {
 }
 
 // Whether a frame is refused with its last two bytes swapped.
-fn refused_swapped(frame: &[u8]) -> bool
-    requires { (2 ≤ length frame.now) × (length frame.now ≤ 16) }
+fn refused_swapped<const N: usize>(mut frame: [u8; N]) -> bool
+    requires { 2 ≤ N }
 {
-    let n = frame.len();
-    let mut copy = copy_of(frame);
-    copy.swap(n - 2, n - 1);
-    !ends_in_crc(&copy[..n])
+    frame.swap(N - 2, N - 1);
+    !ends_in_crc(&frame)
 }
 
 // A frame without its last k bytes; nothing where it has fewer.
@@ -67,27 +54,34 @@ fn without_last(frame: &[u8], k: usize) -> &[u8]
 }
 
 // Every bit of a frame flipped in turn.
-fn flipped(frame: &[u8]) -> Tally
-    requires { length frame.now ≤ 16 }
-    ensures { (result.tried ≡ 8 * length frame.now) × (result.refused ≤ result.tried) }
+// A Modbus frame has at most 256 bytes; for that many no count of copies overflows.
+fn flipped<const N: usize>(frame: &[u8; N]) -> Tally
+    requires { N ≤ 256 }
+    ensures { (result.tried ≡ 8 * N) × (result.refused ≤ result.tried) }
 {
-    let mut tally = Tally::default();
-    for bit in 0..8 * frame.len() {
-        tally.count(refused_flipped(frame, bit));
+    let refused = (0..8 * N)
+        .filter(
+            |bit|
+                requires { bit.now < 8 * N }
+            { refused_flipped(*frame, *bit) },
+        )
+        .count();
+    Tally {
+        tried: 8 * N,
+        refused,
     }
-    tally
 }
 
 // Every damaged copy of a frame: each bit flipped, the last byte cut off, the last two swapped.
-fn damaged(frame: &[u8]) -> Tally
-    requires { length frame.now ≤ 16 }
+fn damaged<const N: usize>(frame: &[u8; N]) -> Tally
+    requires { N ≤ 256 }
 {
     let mut tally = flipped(frame);
-    if 1 <= frame.len() {
+    if 1 <= N {
         tally.count(refused_cut(frame));
     }
-    if 2 <= frame.len() {
-        tally.count(refused_swapped(frame));
+    if 2 <= N {
+        tally.count(refused_swapped(*frame));
     }
     tally
 }
@@ -104,8 +98,8 @@ fn write_frame(rt: &impl Print, frame: &[u8]) -> io::Result<()> {
 }
 
 // Writes a frame's line, with the CRC of what is before its last two bytes; before a shorter frame's there is nothing.
-fn show(rt: &impl Print, frame: &[u8], source: &str) -> io::Result<()>
-    requires { length frame.now ≤ 16 }
+fn show<const N: usize>(rt: &impl Print, frame: &[u8; N], source: &str) -> io::Result<()>
+    requires { N ≤ 256 }
 {
     write_frame(rt, frame)?;
     let sum = crc_of(without_last(frame, 2));

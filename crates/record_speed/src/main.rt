@@ -6,12 +6,13 @@
 ghost use Rattle.std.specs.Prelude.{◌≡◌, length};
 ghost use Rattle.points.specs.Groups.{record_size};
 
-use points::groups::judge;
+use points::groups::{MOST_BYTES, judge};
 use points::table::TABLE_BYTES;
 use records::moment::Moment;
 use records::stamp::Stamp;
 use std::io::{self, Read};
 
+// How many records are written; tests/bench has the number too.
 const RECORDS: u32 = 2_000_000;
 
 // 29 August 2007 11:36:52.
@@ -25,49 +26,45 @@ const STAMP: Stamp = Stamp {
     second: 52,
 };
 
-// Writes the records; a byte of the table changes before each.
+// Writes the records and adds up a byte of each, modulo 2^32; two bytes of the table change before each.
 #[tactic(auto, unfolding(points::specs::Groups::record_size))]
-fn run(part: &mut [u8], table: &mut [u8; TABLE_BYTES], groups: &[u16; 32]) -> u64
+fn run(part: &mut [u8], groups: &[u16; 32]) -> u32
     requires { length part.old ≡ record_size groups.now }
 {
     let size = part.len();
-    let mut sum: u64 = 0;
+    let mut table = [0u8; TABLE_BYTES];
+    let mut sum: u32 = 0;
     for i in 0..RECORDS {
         let byte = (i % 256) as u8;
         table[1] = byte;
         table[700] = byte;
         let moment = Moment {
-            table: &*table,
+            table: &table,
             stamp: STAMP,
             day_first: false,
         };
         moment.write_record(part, groups);
-        let at = (i as usize) % size;
-        sum = (sum + u64::from(part[at])) % 4_294_967_296;
+        sum = sum.wrapping_add(u32::from(part[i as usize % size]));
     }
     sum
 }
 
-// Judges the definition and lends a part of its record's size.
+// The records of one group, which stands at the first place. Point and count are the two numbers of a place, as a definition has them.
 // It is 0 where there is no record to write: the program prints a sum, and that of no records is 0.
-fn run_judged(buffer: &mut [u8], table: &mut [u8; TABLE_BYTES], groups: &[u16; 32]) -> u64 {
-    match judge(groups) {
-        Ok(size) if size <= buffer.len() => run(&mut buffer[..size], table, groups),
-        _ => 0,
-    }
-}
-
-// The records of one group, which stands at the first place.
-fn run_group(point: u16, count: u16) -> u64 {
-    // longer than any record; what is timed has no heap, as in the library
-    let mut buffer = [0u8; 256];
-    let mut table = [0u8; TABLE_BYTES];
+#[tactic(auto, using(points::proofs::Laws::good_definition))]
+fn run_group(point: u16, count: u16) -> u32 {
     let mut groups = [0u16; 32];
     groups[0] = point;
     groups[1] = count;
-    run_judged(&mut buffer, &mut table, &groups)
+    let Ok(size) = judge(&groups) else {
+        return 0;
+    };
+    // an array, and no Vec of the record's size: that would make this a Result, and the proof rest on C's heap
+    let mut part = [0u8; MOST_BYTES];
+    run(&mut part[..size], &groups)
 }
 
+// Standard input's first byte says which records; where it has none, nothing is written.
 fn main(rt: HostRuntime) -> io::Result<()> {
     let mut choice = [0u8; 1];
     let got = rt.stdin().read(&mut choice)?;
