@@ -1,6 +1,7 @@
 // Prints records and alarm records of fixed groups and slots over one live table, a line of hexadecimal digits each.
 // The program `records` of tests/model prints the same lines apart from this program.
-// Runtime and moment go through the functions as two: a struct of them would be generic in the runtime, and no call would be shorter.
+// Runtime and moment go through the functions as two: a struct of them would be generic in the runtime, and one would be built for each of
+// the two date orders.
 #![tactic(auto)]
 
 ghost use Rattle.std.specs.Prelude.{◌<◌};
