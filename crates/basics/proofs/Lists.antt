@@ -5,13 +5,16 @@
 --     part-tabulate, map-tabulate       a part of a list, and a function at each place, as such a rule
 --     copied                            a list copied place by place
 --     filled_none, filled_next, filled-all    a loop that stores place after place by a rule: before, after one more turn, at the end
+--     copying-none, -next, -all         a loop that copies a list: the same
+--     sets-whole                        stores at every place of a list
 --     part-back, take-pasted, length-pasted    a part that was lent and has come back; what stands before its end; the length
 --     part-part                         a part of a part
 --     part-before                       a part that ends at or before the place a of a pasted list is as it was
 --     drop-behind, part-behind          what lies, or a part that starts, at or behind the end of what was pasted is as it was
 --     part-here                         the part that was pasted reads as it was written
 --     pasted-over, pasted-append        pasted over something that was pasted, or right behind it
---     rest_back                         all of a list behind its first k that was lent and has come back
+--     rest-lent, rest_back              the same for all of a list behind its first k
+--     length-zero                       a list of no length
 --     zero-at                           a list of zeros has 0 at every place
 use mathlib.Core.Path.{◌≡◌, refl, sym, ap, ap₂, ◌∙◌}
 use mathlib.Core.List.{List, [], ◌∷◌, ◌++◌, map, map-append, append-nil, append_assoc}
@@ -23,11 +26,13 @@ use native.Mathlib.Numerals.{add-one}
 use native.Mathlib.Omega.{arith}
 use borrow.Author.Tests.{eqb-true}
 use lib.Dec.{eqb}
-use lib.ListN.{length, get_or, set, take, drop, length-append, length-take, length-drop, get_or-append, drop_of_length-le, take-append-drop}
+use lib.ListN.{length, get_or, set, length-set, take, drop, length-append, length-take, length-drop, get_or-append, drop_of_length-le, take-append-drop}
 use lib.Seq.{sets, sets-eq, ext_get_or, get_or-take, get_or-drop, get_or-append_seam, drop-cons, drop-drop, set_at, take_at, drop_at, take_all}
 use lib.Seq.{length-take-le, take-append-le, drop-append-le, take-append_seam}
 use Rattle.basics.specs.Lists.{tabulate, all_zero, pasted}
 use Rattle.basics.proofs.Tests.{and_left, and_right}
+-- a list of no length
+pub use Rattle.std.proofs.lemmas.List.{nil_from_length as length-zero}
 
 pub length-tabulate : (n : ℕ) (f : ℕ → ℕ) → length (tabulate n f) ≡ n
 unfolding tabulate
@@ -101,6 +106,33 @@ filled_next f d i v more is = fill-next (tabulate i f) d i v (length-tabulate i 
 pub filled-all : (f : ℕ → ℕ) (d : List ℕ) (i : ℕ) → length d ≤ i → filled f d i ≡ tabulate i f
 filled-all f d i end = ap (λ t. tabulate i f ++ t) (drop_of_length-le d end) ∙ append-nil (tabulate i f)
 
+-- a loop that copies a list over one of its length, `to`, place by place: what it has made of that after i turns
+pub record Copying (from to : List ℕ) (i : ℕ) (made : List ℕ) : Type 0 where
+  pub some : i ≤ length to
+  pub long : length made ≡ length to
+  pub is : made ≡ filled (λ k. get_or from k 0) to i
+
+pub copying-none : (from to : List ℕ) → Copying from to 0 to
+copying-none from to = record { some = omega arith; long = refl; is = filled_none (λ k. get_or from k 0) to }
+
+pub copying-next : (from to made : List ℕ) (i : ℕ) → Copying from to i made → i < length made → Copying from to (i + 1) (set made i (get_or from i 0))
+copying-next from to made i so_far more =
+    let below : i < length to = omega (arith, so_far.long, more) in
+    record {
+      some = omega (arith, below);
+      long = length-set made i (get_or from i 0) ∙ so_far.long;
+      is = ap (λ l. set l i (get_or from i 0)) so_far.is ∙ filled_next (λ k. get_or from k 0) to i (get_or from i 0) below refl;
+    }
+
+pub copying-all : (from to made : List ℕ) (i : ℕ) → length to ≡ length from → Copying from to i made → length made ≤ i → made ≡ from
+copying-all from to made i same so_far end =
+    let all : i ≡ length from = omega (arith, so_far.some, so_far.long) in
+    so_far.is ∙ filled-all (λ k. get_or from k 0) to i (omega (arith, so_far.long)) ∙ ap (λ k. tabulate k (λ j. get_or from j 0)) all ∙ copied from
+
+pub sets-whole : (l vs : List ℕ) → length l ≡ length vs → sets l 0 vs ≡ vs
+sets-whole l vs same =
+    sets-eq vs l 0 (omega arith) ∙ ap (λ t. vs ++ t) (drop_of_length-le l {i = 0 + length vs} (omega arith)) ∙ append-nil vs
+
 -- ys written over xs from place a on, where a part of that length was lent
 pub part-back : (xs ys : List ℕ) (a k : ℕ) → length ys ≡ k → take a xs ++ (ys ++ drop k (drop a xs)) ≡ pasted xs a ys
 part-back xs ys a k long = rw (drop-drop, long) refl
@@ -122,7 +154,10 @@ take-pasted xs ys a b fits end =
     let long : length (take a xs ++ ys) ≡ b = simp (length-append, length-take) (omega arith) in
     rw (← append_assoc) (take_at (take a xs ++ ys) (drop (a + length ys) xs) b long)
 
--- the rest of a list behind its first k, lent as a part: what the list is when it has come back as zs
+-- the rest of a list behind its first k, lent as a part; and what the list is when it has come back as zs
+pub rest-lent : (xs ys : List ℕ) (k : ℕ) → length xs ≡ k → take (length (xs ++ ys) - k) (drop k (xs ++ ys)) ≡ ys
+rest-lent xs ys k front = rw (drop_at xs ys k front) (take_all (length (xs ++ ys) - k) ys (simp length-append (omega arith)))
+
 pub rest_back : (xs ys zs : List ℕ) (k : ℕ) → length xs ≡ k →
     take k (xs ++ ys) ++ (zs ++ drop (length (xs ++ ys) - k) (drop k (xs ++ ys))) ≡ xs ++ zs
 rest_back xs ys zs k front =
