@@ -1,9 +1,10 @@
 -- Laws of the frame check and of words, for lists of any numbers. Assumes nothing.
 --     crc-fits         a CRC is below 65,536
+--     last-two         the last two numbers of a list
 --     framed-checks    a list followed by its CRC, low byte first, ends in its CRC
 --     length-framed    its length
 --     high_bit_or      a byte with 80 hex or-ed in
---     crc_behind       the CRC of a buffer's first bytes, stored behind them
+--     crc-behind, crc_behind    the CRC of a buffer's first bytes, stored behind them: of a list, and of two stores
 --     header-closed    three bytes of a header before bytes that stand in a buffer, and the CRC behind them
 --     closed-over, closed-part    bytes that were put behind the place of a header, or into the part there, made a read reply
 --     word-read-back   a word written at any place of a list reads back
@@ -12,12 +13,13 @@ use mathlib.Core.List.{List, [], ◌∷◌, ◌++◌, append_assoc}
 use mathlib.Core.Bool.{Bool, true, false, cond}
 use Prim.Native.Nat.{ℕ, zero, suc, ◌+◌, ◌-◌, ◌/◌, ◌%◌, ◌^◌, ◌≤◌, ◌<◌}
 use native.Mathlib.Nat.{div-add-mod'}
+use native.Mathlib.Numerals.{add-one}
 use native.Mathlib.Omega.{arith}
 use borrow.Author.Tests.{le-leb}
 use lib.Dec.{eqb, leb, lit<}
 use lib.Bits.{bit_or, bit_xor, xor_lt}
-use lib.ListN.{length, get_or, take, drop, length-append}
-use lib.Seq.{sets, get_or_at, length-take-le, take-append_seam, drop-append_seam}
+use lib.ListN.{length, get_or, set, take, drop, length-append}
+use lib.Seq.{sets, drop-cons, drop-length, get_or_at, length-take-le, take-append_seam, drop-append_seam}
 use Rattle.basics.specs.Lists.{pasted, tabulate}
 use Rattle.basics.proofs.Lists.{get_or-tabulate, sets-pasted, part-here, part-back, pasted-over}
 use Rattle.basics.proofs.Tests.{eqb_same}
@@ -56,6 +58,14 @@ unfolding crc_of
 crc-fits bs = from-fits 0xFFFF bs (lit< tt)
 
 -- ---- a list followed by its CRC checks
+pub last-two : (s : List ℕ) → 2 ≤ length s → drop (length s - 2) s ≡ get_or s (length s - 2) 0 ∷ get_or s (length s - 1) 0 ∷ []
+last-two s long =
+    let n = length s in
+    let next : suc (n - 2) ≡ n - 1 = omega arith in
+    let end : suc (n - 1) ≡ n = omega arith in
+    drop-cons s (n - 2) 0 (omega arith)
+    ∙ ap (λ t. get_or s (n - 2) 0 ∷ t) (ap (λ k. drop k s) next ∙ drop-cons s (n - 1) 0 (omega arith) ∙ ap (λ k. get_or s (n - 1) 0 ∷ drop k s) end ∙ ap (λ t. get_or s (n - 1) 0 ∷ t) (drop-length s))
+
 pub framed-checks : (bs : List ℕ) → ends_in_crc (with_crc bs) ≡ true
 unfolding with_crc ends_in_crc
 framed-checks bs =
@@ -81,16 +91,19 @@ unfolding with_crc
 length-framed bs = length-append bs (crc_bytes (crc_of bs))
 
 -- ---- frames in a buffer
-pub crc_behind : (b sum : List ℕ) (n k : ℕ) → n + 2 ≤ length b → k ≡ 2 → sum ≡ crc_bytes (crc_of (take n b)) →
-    take n b ++ (sum ++ drop k (drop n b)) ≡ pasted b 0 (with_crc (take n b))
+pub crc-behind : (b : List ℕ) (n sum : ℕ) → n + 2 ≤ length b → sum ≡ crc_of (take n b) → sets b n (crc_bytes sum) ≡ pasted b 0 (with_crc (take n b))
 unfolding with_crc
-crc_behind b sum n k fits two is =
+crc-behind b n sum fits is =
     let front = take n b in
     let end : n + 2 ≡ 0 + length (take n b ++ crc_bytes (crc_of (take n b))) = simp (length-append, length-take-le n b (omega arith)) (omega arith) in
-    part-back b sum n k (ap length is ∙ sym two)
-    ∙ ap (λ c. pasted b n c) is
+    ap (λ c. sets b n (crc_bytes c)) is
+    ∙ sets-pasted b (crc_bytes (crc_of front)) n fits
     ∙ sym (append_assoc front (crc_bytes (crc_of front)) (drop (n + 2) b))
     ∙ ap (λ k. (front ++ crc_bytes (crc_of front)) ++ drop k b) end
+
+pub crc_behind : (b : List ℕ) (n sum : ℕ) → n + 2 ≤ length b → sum ≡ crc_of (take n b) →
+    set (set b n (sum % 256)) (n + 1) (sum / 256) ≡ pasted b 0 (with_crc (take n b))
+crc_behind b n sum fits is = simp add-one (crc-behind b n sum fits is)
 
 pub header-closed : (b : List ℕ) (x y z size n : ℕ) → size + 5 ≤ length b → n ≡ size + 3 →
     let headed = sets b 0 (x ∷ y ∷ z ∷ []) in

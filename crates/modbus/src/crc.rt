@@ -29,7 +29,11 @@ pub fn ends_in_crc(frame: &[u8]) -> bool
     ensures { result ≡ ends_in_crc frame.now }
 {
     match frame {
-        [body @ .., low, high] => [*low, *high] == crc_of(body).to_le_bytes(),
+        // byte by byte: an array of the two would be bytes that a poll's function keeps (docs/DECISIONS.md, D116)
+        [body @ .., low, high] => {
+            let sum = crc_of(body);
+            *low == (sum % 256) as u8 && *high == (sum / 256) as u8
+        }
         _ => false,
     }
 }

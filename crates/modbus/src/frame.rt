@@ -72,7 +72,9 @@ fn write_crc(buffer: &mut [u8], n: usize)
     ensures { buffer.new ≡ pasted buffer.old 0 (with_crc (take n buffer.old)) }
 {
     let sum = crc_of(&buffer[..n]);
-    buffer[n..n + 2].copy_from_slice(&sum.to_le_bytes());
+    // byte by byte: an array of the two would be reply bytes that a poll's function keeps (docs/DECISIONS.md, D116)
+    buffer[n] = (sum % 256) as u8;
+    buffer[n + 1] = (sum / 256) as u8;
 }
 
 // Makes a read reply of the bytes that stand from byte 3 on, and answers its length. It carries the function that asked.
