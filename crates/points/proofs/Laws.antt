@@ -1,7 +1,8 @@
 -- Laws of the table's lookup and of groups. Assumes nothing.
+--     row_here, row-past    the lookup from row i on, by the test on row i
 --     lookup-sound          what a computed test says of every row holds of the row that the lookup gives
---     boolean-inside, float-inside, float_is    a point that is a Boolean or 0, or a float or 0, and is not 0: its bounds, and a float's row
---     boolean_point_lem     Boolean number i is a Boolean point
+--     boolean-inside, boolean-is, float-inside, float_is    a point that is a Boolean or 0, or a float or 0, and is not 0: its bounds and its row
+--     boolean_row_lem, boolean-found, boolean_point_lem    a Boolean point and its row
 --     float_size            a float has four bytes
 --     group-inside, group-sound, group_again    what is known of a group's points
 --     group-of-run, group-of-one    points of a row that are a group
@@ -19,7 +20,7 @@ use native.Mathlib.Numerals.{add-one}
 use native.Mathlib.Decide.{le_ind}
 use lib.Dec.{leb, ltb, eqb, eqb-suc-zero}
 use lib.ListN.{length, get_or, take, drop, length-drop}
-use lib.Seq.{get_or-drop, take_all}
+use lib.Seq.{drop-cons, get_or-drop, take_all}
 use borrow.Author.Tests.{eqb-true, leb-true, ltb-true, ltb-false, ne_eqb, le-leb, lt-leb}
 use Rattle.basics.proofs.Tests.{and_left, and_right}
 use Rattle.points.specs.declared.table.Kind.{Kind}
@@ -34,6 +35,14 @@ use Rattle.points.specs.declared.groups.Group.{Group}
 use Rattle.points.specs.declared.groups.Group.TheVariants.{Unused, Points, Bad}
 use Rattle.points.specs.Table.{table_bytes, rows, in_row, row_of, points_size, boolean_row, float_row, boolean_point, boolean_points, in_row_or_none, boolean_or_none, float_or_none}
 use Rattle.points.specs.Groups.{unused, ends_in_row, run, points_from, group_of, group_size, is_bad, first_point_at, count_at, group_at, groups_size, first_bad, record_size, judged, judged_card, ZeroFrom}
+
+pub row_here : (rs : List Row) (i p : ℕ) (d : Row) → i < length rs → in_row (get_or rs i d) p ≡ true →
+    find (λ r. in_row r p) (drop i rs) ≡ Some (get_or rs i d)
+row_here rs i p d h t = rw (drop-cons rs i d h, t)
+
+pub row-past : (rs : List Row) (i p : ℕ) (d : Row) → i < length rs → in_row (get_or rs i d) p ≡ false →
+    find (λ r. in_row r p) (drop i rs) ≡ find (λ r. in_row r p) (drop (suc i) rs)
+row-past rs i p d h t = rw (drop-cons rs i d h, t)
 
 -- a test passes at every row of a list
 abbrev pub every_row : (Row → Bool) → List Row → Bool
@@ -209,12 +218,33 @@ in_row_lem r p ok some =
     let both : (leb r.first p && leb p r.last) ≡ true = simp (ne_eqb p 0 some) at ok in
     (leb-true _ _ (and_left (leb r.first p) (leb p r.last) both), leb-true _ _ (and_right (leb r.first p) (leb p r.last) both))
 
--- a Boolean point
+-- a Boolean point, and its row
 pub boolean-inside : (p : ℕ) → boolean_or_none p ≡ true → (p ≡ 0 → ⊥) → (1801 ≤ p) × (p ≤ 1928)
 unfolding boolean_or_none
 boolean-inside p ok some = in_row_lem boolean_row p ok some
 
--- Boolean number i is a Boolean point
+boolean-looked : (p : ℕ) → 1801 ≤ p → p ≤ 1928 → row_of p ≡ Some boolean_row
+unfolding row_of rows in_row
+boolean-looked p from to = simp (le-leb 1801 p from, le-leb p 1928 to)
+
+pub boolean-is : (p : ℕ) → boolean_or_none p ≡ true → (p ≡ 0 → ⊥) → row_of p ≡ Some boolean_row
+boolean-is p ok some = let inside = boolean-inside p ok some in boolean-looked p inside.0 inside.1
+
+-- a Boolean point is in the row that starts with the table, and is one of its 128
+pub boolean_row_lem : (p : ℕ) (r : Row) → boolean_or_none p ≡ true → row_of p ≡ Some r →
+    (r.offset ≡ 0) × (r.first ≤ p) × (p - r.first < boolean_points)
+boolean_row_lem p r ok e =
+    let seen = lookup-sound p r e in
+    let some : p ≡ 0 → ⊥ = λ z. omega (arith, seen.named, seen.from, z) in
+    let inside = boolean-inside p ok some in
+    let found = boolean-is p ok some in
+    let same : boolean_row ≡ r = cc (found, e) in
+    subst (λ x. (x.offset ≡ 0) × (x.first ≤ p) × (p - x.first < boolean_points)) same (refl, inside.0, omega (arith, inside.0, inside.1))
+
+-- Boolean number i is in it
+pub boolean-found : (i : ℕ) → i < boolean_points → row_of (boolean_point i) ≡ Some boolean_row
+boolean-found i below = boolean-looked (boolean_point i) (omega (arith, below)) (omega (arith, below))
+
 pub boolean_point_lem : (i : ℕ) → i < boolean_points → boolean_or_none (boolean_point i) ≡ true
 unfolding boolean_or_none in_row
 boolean_point_lem i below =
