@@ -8,6 +8,7 @@ ghost use Rattle.polls.specs.View.{view_of};
 ghost use Rattle.polls.specs.Lent.{LentPoints};
 
 use crate::view::View;
+use basics::copy_bytes;
 use modbus::frame::{Function, close_read_reply};
 use modbus::word::put_word;
 use points::Run;
@@ -19,7 +20,7 @@ pub fn send_bytes(buffer: &mut [u8], unit: u8, archive: &[u8], at: usize, size: 
     ensures { Sent (read_reply unit (take size (drop at archive.now)))
         buffer.old result buffer.new }
 {
-    buffer[3..3 + size].copy_from_slice(&archive[at..at + size]);
+    copy_bytes(&mut buffer[3..3 + size], &archive[at..at + size]);
     close_read_reply(buffer, unit, u8::from(Function::Read), size)
 }
 
@@ -29,7 +30,7 @@ pub fn send_echo(buffer: &mut [u8], frame: &[u8]) -> usize
     ensures { Sent frame.now buffer.old result buffer.new }
 {
     let size = frame.len();
-    buffer[..size].copy_from_slice(frame);
+    copy_bytes(&mut buffer[..size], frame);
     size
 }
 

@@ -9,6 +9,7 @@ ghost use Rattle.records.specs.Record.{captured_groups};
 ghost use Rattle.records.specs.Lent.{LentRun, LentGroup, LentPlace, Placed};
 
 use crate::flags::write_flags;
+use basics::copy_bytes;
 use points::groups::group_at;
 use points::table::TABLE_BYTES;
 use points::{Group, Kind, Run};
@@ -54,7 +55,7 @@ fn write_values(part: &mut [u8], table: &[u8], kind: Kind, from: usize)
     if is_text(kind) {
         copy_texts(part, values);
     } else {
-        part.copy_from_slice(values);
+        copy_bytes(part, values);
     }
 }
 

@@ -9,4 +9,4 @@ pub returns : goal.returns
 returns c =
     let a = c.args in
     let from : a.at + a.size - a.at ≡ a.size = omega arith in
-    closed-part _ _ _ _ _ _ _ _ (rw from at c.copy_from_slice.ensures.after) (length_part a.archive.now a.at a.size (omega arith)) (omega arith) (rw c.from.ensures at c.close_read_reply.ensures)
+    closed-part _ _ _ _ _ _ _ _ (rw from at c.copy_bytes.ensures) (length_part a.archive.now a.at a.size (omega arith)) (omega arith) (rw c.from.ensures at c.close_read_reply.ensures)
