@@ -59,17 +59,14 @@ fn flipped<const N: usize>(frame: &[u8; N]) -> Tally
     requires { N ≤ 256 }
     ensures { (result.tried ≡ 8 * N) × (result.refused ≤ result.tried) }
 {
-    let refused = (0..8 * N)
-        .filter(
-            |bit|
-                requires { bit.now < 8 * N }
-            { refused_flipped(*frame, *bit) },
-        )
-        .count();
-    Tally {
-        tried: 8 * N,
-        refused,
+    let mut tally = Tally {
+        tried: 0,
+        refused: 0,
+    };
+    for bit in 0..8 * N {
+        tally.count(refused_flipped(*frame, bit));
     }
+    tally
 }
 
 // Every damaged copy of a frame: each bit flipped, the last byte cut off, the last two swapped.
