@@ -38,10 +38,16 @@ fn live_table() -> [u8; TABLE_BYTES] {
     table
 }
 
-// Writes a record's line.
+static DIGITS: [u8; 16] = *b"0123456789abcdef";
+
+// Writes a record's line. Its digits are looked up: formatted as `{byte:02x}`, the whole program takes two fifths longer.
 fn write_line(rt: &impl Print, bytes: &[u8]) -> io::Result<()> {
     for byte in bytes {
-        print!(rt; "{byte:02x}")?;
+        let digits = [
+            DIGITS[usize::from(byte / 16)],
+            DIGITS[usize::from(byte % 16)],
+        ];
+        rt.write_all(&digits)?;
     }
     println!(rt)
 }
