@@ -345,7 +345,7 @@ good_most gs size is = (judged-good gs size is).most
 pub ruleset good_definition = (good_sized, good_most, length-take-le)
 
 -- ---- the places that are not walked
-pub rest-zero : (gs : List ℕ) (k n : ℕ) → length gs ≡ k + n → ZeroFrom (take n (drop k gs)) 0 → ZeroFrom gs k
+pub rest-zero : (gs : List ℕ) (k n : ℕ) → length gs ≤ k + n → ZeroFrom (take n (drop k gs)) 0 → ZeroFrom gs k
 rest-zero gs k n long none i behind =
     let all : take n (drop k gs) ≡ drop k gs = take_all n (drop k gs) (omega (arith, length-drop k gs)) in
     let here : k + (i - k) ≡ i = omega (arith, behind) in
