@@ -6,3 +6,4 @@ pub mod booleans;
 pub mod captures;
 pub mod layout;
 pub mod ring;
+pub mod sight;

@@ -1,4 +1,4 @@
-use Rattle.archive.proofs.booleans.Sight.turned_bits.Goals as goal
+use Rattle.archive.proofs.sight.Sight.turned_bits.Goals as goal
 
 pub returns-clause-bits : goal.returns-clause-bits
 returns-clause-bits c =

@@ -1,0 +1,14 @@
+// What a scan sees.
+ghost use Rattle.std.specs.Prelude.{◌≤◌, length};
+ghost use Rattle.points.specs.Table.{boolean_bytes};
+
+use records::moment::Moment;
+
+// What a scan sees: the Booleans remembered from the accepted scan before it, and its own table, stamp and date order.
+// The Booleans are the first bytes of a list that may be longer, as a whole live table is.
+#[derive(Clone, Copy, Debug, PartialEq, Eq)]
+pub struct Sight<'a> {
+    pub before: &'a [u8],
+    pub moment: Moment<'a>,
+    ghost remembered: { boolean_bytes ≤ length before.now },
+}
