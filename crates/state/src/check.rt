@@ -44,8 +44,10 @@ impl State {
         requires same { size ≡ self.now.site.archive_length }
         ensures { result ≡ valid self.now }
     {
-        let settled = self.settings.is_valid(&self.files.layout);
-        let fits = self.files.fit(files, &self.line.requested, size);
-        settled & fits & self.flags.is_valid() & self.site.is_valid()
+        // the files first: of a state that is Foreign by them nothing else is looked at
+        self.files.fit(files, &self.line.requested, size)
+            && (self.settings.is_valid(&self.files.layout)
+                & self.flags.is_valid()
+                & self.site.is_valid())
     }
 }
