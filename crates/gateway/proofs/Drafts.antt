@@ -2,21 +2,24 @@
 --     written-here, written-elsewhere    the definition of a file after it
 --     drafts-stay-good                   good drafts stay good when a good definition is written
 --     drafts_good                        a valid state's drafts are good
-use mathlib.Core.Path.{◌≡◌, sym, ap, ◌∙◌}
+--     draft-room    whether the code finds room for the drafts is whether they fit
+use mathlib.Core.Path.{◌≡◌, sym, ap, ap₂, ◌∙◌}
 use mathlib.Core.List.{List}
 use mathlib.Core.Logic.{⊎_elim}
-use mathlib.Core.Bool.{true}
+use mathlib.Core.Bool.{Bool, true}
 use Prim.Native.Nat.{ℕ, ◌*◌, ◌≤◌, ◌<◌}
 use native.Mathlib.Omega.{arith}
 use lib.ListN.{length, take, drop, length-take, length-drop}
 use Rattle.basics.specs.Lists.{pasted}
 use Rattle.basics.proofs.Lists.{part-before, part-behind, part-here}
 use Rattle.basics.proofs.Tests.{eq-or-not, lt-or-le}
-use Rattle.archive.specs.Layout.{definition, is_good, good_files}
+use Rattle.archive.specs.Layout.{definition, is_good, good_files, layout_of, has_room}
 use Rattle.archive.proofs.Layouts.{every-at, every-all, good-definition, good-file}
 use Rattle.state.specs.declared.parts.State.{State}
+use Rattle.state.specs.State.{depth_of}
 use Rattle.state.specs.Validity.{valid}
 use Rattle.state.proofs.Clauses.{valid-split}
+use Rattle.gateway.specs.Calls.{draft_fits}
 
 pub written-here : (xs gs : List ℕ) (k : ℕ) → 32 * k ≤ length xs → length gs ≡ 32 → definition (pasted xs (32 * k) gs) k ≡ gs
 written-here xs gs k fits long =
@@ -53,3 +56,8 @@ drafts-stay-good xs gs k below good new = every-all (λ f. is_good (definition (
 -- ---- room for the drafts, in a state that is taken
 pub drafts_good : (s : State) → valid s ≡ true → good_files s.settings.draft.groups ≡ true
 drafts_good s sound = (valid-split s sound).drafts
+
+-- the depth and the length of memory that the code goes by are the state's
+pub draft-room : (s : State) (depth size : ℕ) (r : Bool) → depth ≡ depth_of s.site → size ≡ s.site.archive_length →
+    r ≡ has_room (layout_of s.settings.draft depth) size → draft_fits s ≡ r
+draft-room s depth size r deep same told = sym (told ∙ ap₂ (λ d n. has_room (layout_of s.settings.draft d) n) deep same)

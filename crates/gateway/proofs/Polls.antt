@@ -1,8 +1,11 @@
 -- Laws of the poll. Assumes nothing.
+--     poll-number-is    the code's number, in the words of the definition
+--     poll-taken        none of a poll's numbers applies
 --     poll-refuses      what a poll leaves that is refused
+--     poll-sees         the answering function sees by the state's depth
 --     poll_lends, poll_answers    what the answering function is lent, and that it answers what a poll sees, in a reply that fits
 --     poll-valid        a poll leaves a valid state valid
-use mathlib.Core.Path.{◌≡◌, refl, ◌∙◌}
+use mathlib.Core.Path.{◌≡◌, refl, ap, ◌∙◌, subst}
 use mathlib.Core.List.{List}
 use mathlib.Core.Bool.{true, false}
 use Prim.Native.Nat.{ℕ, ◌≤◌}
@@ -11,21 +14,39 @@ use borrow.Author.Rules.{rules}
 use borrow.Author.Tests.{ne_eqb, leb-true}
 use lib.Dec.{eqb}
 use lib.ListN.{length}
+use Rattle.std.proofs.lemmas.Grind.{common_steps}
+use Rattle.basics.specs.Card.{first_of}
 use Rattle.basics.proofs.Tests.{by_cond}
+use Rattle.points.specs.Table.{table_bytes}
 use Rattle.archive.specs.declared.layout.File.{File}
-use Rattle.archive.specs.Layout.{good_files, has_room, layout_size}
+use Rattle.archive.specs.Layout.{layout_of, good_files, has_room, layout_size}
 use Rattle.polls.proofs.Agree.{files_view, answers_laid, laid_lends}
+use Rattle.polls.specs.View.{archive_view}
 use Rattle.polls.specs.Frames.{Answers}
 use Rattle.polls.specs.Lent.{least_buffer, LentPoll}
 use Rattle.polls.proofs.Laws.{requested-within}
 use Rattle.polls.proofs.Lengths.{reply-short}
 use Rattle.state.specs.declared.parts.State.{State}
 use Rattle.state.specs.Lent.{IsTaken}
-use Rattle.state.specs.State.{laid_out}
-use Rattle.state.specs.Validity.{valid}
+use Rattle.state.specs.State.{depth_of, laid_out}
+use Rattle.state.specs.Validity.{state_number, valid}
 use Rattle.state.proofs.Clauses.{valid-split, valid-join, within_split, within_join}
 use Rattle.gateway.specs.declared.poll.PollAnswer.{PollAnswer}
-use Rattle.gateway.specs.Poll.{poll_view, poll_number, poll_told, poll_answer, poll_buffer, Polled}
+use Rattle.gateway.specs.Poll.{poll_view, lent_number, poll_number, poll_told, poll_answer, poll_buffer, Polled}
+
+pub poll-number-is : (s : State) (size table_size buffer_size n : ℕ) → n ≡ state_number s size →
+    first_of n (lent_number table_size buffer_size) ≡ poll_number s size table_size buffer_size
+unfolding poll_number
+poll-number-is s size table_size buffer_size n is = ap (λ k. first_of k (lent_number table_size buffer_size)) is
+
+pub record Taken (s : State) (size table_size buffer_size : ℕ) : Type 0 where
+  pub state : state_number s size ≡ 0
+  pub whole : table_size ≡ table_bytes
+  pub buffered : least_buffer ≤ buffer_size
+
+pub poll-taken : (s : State) (size table_size buffer_size : ℕ) → poll_number s size table_size buffer_size ≡ 0 → Taken s size table_size buffer_size
+unfolding poll_number
+poll-taken s size table_size buffer_size taken = grind (arith, common_steps)
 
 module _ (s : State) (m table frame buffer : List ℕ) where
   abbrev number : ℕ
@@ -38,6 +59,14 @@ module _ (s : State) (m table frame buffer : List ℕ) where
   poll-refuses n is some =
       let refused : eqb number 0 ≡ false = ne_eqb number 0 (λ none. some (is ∙ none)) in
       record { answer = rw (is, refused) refl; memory = refl; kept = refl; reply = rw refused refl }
+
+  pub poll-sees : (depth told : ℕ) (buffer' requested' : List ℕ) → depth ≡ depth_of s.site →
+      Answers (archive_view s.site.unit (layout_of s.files.layout depth) s.files.pointers s.line.requested m table)
+      frame buffer told buffer' requested' → Answers (poll_view s m table) frame buffer told buffer' requested'
+  unfolding poll_view
+  poll-sees depth told buffer' requested' deep =
+      subst (λ d. Answers (archive_view s.site.unit (layout_of s.files.layout d) s.files.pointers s.line.requested m table)
+      frame buffer told buffer' requested') deep
 
   -- where a state is taken, what the answering function is lent, and what it leaves
   module _ (files : List File) (taken : IsTaken s (length m) files) where
