@@ -1,36 +1,86 @@
 -- Laws of the reading end's answers. Assumes nothing.
---     place_inside, named-is    a place's points end within the record, and its group
+--     frame-good       what a frame is that is not refused
+--     stretch-good     what a place is whose stretch is not refused
+--     place-fits, place_inside    a place's stretch ends within the record
+--     named-is         the group of a place
 --     two_bytes, four_bytes    numbers from bytes
 --     value_of_lem, flag-of    a point's value in a stretch, by kind
 --     stretch_laws     what a stretch holds of a point, and the point's value, by kind
-use mathlib.Core.Path.{◌≡◌, refl, sym, ap, ap₂, ◌∙◌}
+use mathlib.Core.Path.{◌≡◌, refl, sym, ap, ap₂, ◌∙◌, subst}
 use mathlib.Core.List.{List, [], ◌∷◌}
-use mathlib.Core.Bool.{true}
+use mathlib.Core.Bool.{Bool, true, false, cond}
 use mathlib.Core.Logic.{◌⊎◌, ⊎_elim}
 use Prim.Native.Nat.{ℕ, ◌+◌, ◌-◌, ◌*◌, ◌<◌, ◌≤◌}
 use native.Mathlib.Nat.{add-zero, add-mul, mul-le-mul_right}
 use native.Mathlib.Omega.{arith}
-use borrow.Author.Tests.{le-leb, ltb-true, eq-eqb, ne_eqb}
-use lib.Dec.{eqb, ltb}
+use borrow.Author.Tests.{eqb-true, leb-true, le-leb, ltb-true, eq-eqb, ne_eqb}
+use lib.Dec.{eqb, leb, ltb}
 use lib.ListN.{length, get_or, take, drop}
-use Rattle.basics.specs.Lists.{tabulate}
-use Rattle.basics.proofs.Tests.{eq-or-not}
+use Rattle.std.specs.Prelude.{Result, Ok, Err}
+use Rattle.basics.specs.declared.card.Refusal.{Refusal}
+use Rattle.basics.specs.declared.card.Refusal.TheVariants.{Garbled, Empty}
+use Rattle.basics.specs.Lists.{all_zero, tabulate}
+use Rattle.basics.specs.Numbers.{within}
+use Rattle.basics.proofs.Tests.{and_left, and_right, eq-or-not}
 use Rattle.basics.proofs.Lists.{length_part, part-tabulate}
 use Rattle.modbus.specs.Word.{number_of, word_at}
 use Rattle.points.specs.declared.table.Kind.{Kind}
 use Rattle.points.specs.declared.table.Kind.TheVariants.{Boolean, Int16, Text8, Int32, Float, Text16}
 use Rattle.points.specs.declared.table.Row.{Row}
 use Rattle.points.specs.declared.table.Run.{Run}
-use Rattle.points.specs.declared.groups.Group.TheVariants.{Points}
+use Rattle.points.specs.declared.groups.Group.{Group}
+use Rattle.points.specs.declared.groups.Group.TheVariants.{Unused, Points, Bad}
 use Rattle.points.specs.Table.{flag_at, packed_size, points_size}
-use Rattle.points.specs.Groups.{group_at, group_size, groups_size, record_size}
-use Rattle.points.proofs.Laws.{group-inside, kind_size, lookup-size, groups-size-next, groups-size-mono}
+use Rattle.points.specs.Groups.{judged, group_at, group_size, groups_size, record_size}
+use Rattle.points.proofs.Laws.{GoodDefinition, judged-good, group-inside, kind_size, lookup-size, groups-size-next, groups-size-mono}
+use Rattle.records.specs.Stamp.{in_range, stamp_from}
 use Rattle.records.specs.Value.{flag, int16, int32, float, signed, value_of, bytes_in_stretch, value_in_stretch}
 use Rattle.reader.specs.declared.stretch.Stretch.{Stretch}
 use Rattle.reader.specs.declared.answers.Value.TheVariants.{Text}
 use Rattle.reader.specs.Answers.{part, answered}
 use Rattle.reader.specs.Stretch.{IsLent}
-use Rattle.reader.specs.Frame.{group_named}
+use Rattle.reader.specs.Frame.{and_then, is_reply, record_part, record_checked, reply_checked, frame_checked, group_named, place_checked, stretch_checked, stretch_from, stretch_length}
+
+never : {X : Type 0} → ◌≡◌ {A = ℕ} 0 1 → X
+never z = absurd (omega arith)
+
+-- ---- a frame that is not refused
+pub record GoodFrame (gs : List ℕ) (d : Bool) (f : List ℕ) (size : ℕ) : Type 0 where
+  pub definition : GoodDefinition gs size
+  pub reply : is_reply f size ≡ true
+  pub long : length f ≡ size + 5
+  pub filled : all_zero (record_part f size) ≡ false
+  pub dated : in_range (stamp_from d (record_part f size)) ≡ true
+
+pub reply-long : (f : List ℕ) (size : ℕ) → is_reply f size ≡ true → length f ≡ size + 5
+unfolding is_reply
+reply-long f size e = eqb-true (length f) (size + 5) (and_left (eqb (length f) (size + 5)) _ e)
+
+pub frame-good : (gs : List ℕ) (d : Bool) (f : List ℕ) (size : ℕ) → frame_checked gs d f ≡ Ok size → GoodFrame gs d f size
+unfolding frame_checked reply_checked record_checked
+frame-good gs d f size e = go (judged gs) refl e
+  where
+    dated : (n : ℕ) → GoodDefinition gs n → is_reply f n ≡ true → all_zero (record_part f n) ≡ false
+        → (b : Bool) → in_range (stamp_from d (record_part f n)) ≡ b → cond b (Ok (length (record_part f n))) (Err Garbled) ≡ Ok size → GoodFrame gs d f size
+    dated n ok reply filled true t q =
+        let long = reply-long f n reply in
+        let whole : length (record_part f n) ≡ size = cc in
+        let same : n ≡ size = sym (length_part f 3 n (omega (arith, long))) ∙ whole in
+        subst (λ k. GoodFrame gs d f k) same (record { definition = ok; reply = reply; long = long; filled = filled; dated = t })
+    dated n ok reply filled false t q = never (cc)
+
+    filled : (n : ℕ) → GoodDefinition gs n → is_reply f n ≡ true → (b : Bool) → all_zero (record_part f n) ≡ b
+        → cond b (Err Empty) (cond (in_range (stamp_from d (record_part f n))) (Ok (length (record_part f n))) (Err Garbled)) ≡ Ok size → GoodFrame gs d f size
+    filled n ok reply true t q = never (cc)
+    filled n ok reply false t q = dated n ok reply t (in_range (stamp_from d (record_part f n))) refl q
+
+    replied : (n : ℕ) → GoodDefinition gs n → (b : Bool) → is_reply f n ≡ b → cond b (record_checked d (record_part f n)) (Err Garbled) ≡ Ok size → GoodFrame gs d f size
+    replied n ok true t q = filled n ok t (all_zero (record_part f n)) refl q
+    replied n ok false t q = never (cc)
+
+    go : (j : Result ℕ Refusal) → judged gs ≡ j → and_then j (reply_checked d f) ≡ Ok size → GoodFrame gs d f size
+    go (Ok n) is q = replied n (judged-good gs n is) (is_reply f n) refl q
+    go (Err refusal) is q = never (cc)
 
 -- ---- places
 -- the points of a place end within the record
@@ -40,6 +90,42 @@ unfolding record_size
 place_inside gs k q below is =
     let sized : group_size (group_at gs k) ≡ points_size q.row q.count = ap group_size is in
     omega (arith, sized, groups-size-next gs k, groups-size-mono gs (k + 1) 16 (omega arith))
+
+-- the stretch of any place ends within the record
+pub place-fits : (gs : List ℕ) (g size : ℕ) → GoodDefinition gs size → 1 ≤ g → g ≤ 16 → stretch_from gs g + stretch_length gs g ≤ size
+unfolding record_size
+place-fits gs g size ok from to =
+    let here : g - 1 + 1 ≡ g = omega arith in
+    let next : groups_size gs g ≡ groups_size gs (g - 1) + stretch_length gs g = ap (groups_size gs) (sym here) ∙ groups-size-next gs (g - 1) in
+    omega (arith, ok.sized, next, groups-size-mono gs g 16 to)
+
+-- ---- a stretch that is not refused
+pub record GoodStretch (gs : List ℕ) (d : Bool) (f : List ℕ) (g size : ℕ) : Type 0 where
+  pub frame : GoodFrame gs d f size
+  pub from : 1 ≤ g
+  pub to : g ≤ 16
+  pub fits : stretch_from gs g + stretch_length gs g ≤ size
+
+pub stretch-good : (gs : List ℕ) (d : Bool) (f : List ℕ) (g size : ℕ) → stretch_checked gs d f g ≡ Ok size → GoodStretch gs d f g size
+unfolding stretch_checked
+stretch-good gs d f g size e = go (frame_checked gs d f) refl e
+  where
+    inside : (n : ℕ) → GoodFrame gs d f n → within 1 16 g ≡ true → (x : Group) → place_checked x n ≡ Ok size → GoodStretch gs d f g size
+    inside n ok place Unused q = never (cc)
+    inside n ok place Bad q = never (cc)
+    inside n ok place (Points r) q =
+        let from = leb-true 1 g (and_left (leb 1 g) (leb g 16) place) in
+        let to = leb-true g 16 (and_right (leb 1 g) (leb g 16) place) in
+        let same : n ≡ size = cc in
+        subst (λ k. GoodStretch gs d f g k) same (record { frame = ok; from = from; to = to; fits = place-fits gs g n ok.definition from to })
+
+    named : (n : ℕ) → GoodFrame gs d f n → (b : Bool) → within 1 16 g ≡ b → place_checked (cond b (group_at gs (g - 1)) Unused) n ≡ Ok size → GoodStretch gs d f g size
+    named n ok true t q = inside n ok t (group_at gs (g - 1)) q
+    named n ok false t q = never (cc)
+
+    go : (c : Result ℕ Refusal) → frame_checked gs d f ≡ c → and_then c (place_checked (group_named gs g)) ≡ Ok size → GoodStretch gs d f g size
+    go (Ok n) is q = named n (frame-good gs d f n is) (within 1 16 g) refl q
+    go (Err refusal) is q = never (cc)
 
 -- the group of a place
 pub named-is : (gs : List ℕ) (g : ℕ) → 1 ≤ g → g ≤ 16 → group_named gs g ≡ group_at gs (g - 1)
