@@ -2,6 +2,7 @@
 --     frame-good       what a frame is that is not refused
 --     stretch-good     what a place is whose stretch is not refused
 --     place-fits, place_inside    a place's stretch ends within the record
+--     lent-record, length-stretch    its record is as `stretch_of` asks, and how long the stretch is
 --     named-is         the group of a place
 --     two_bytes, four_bytes    numbers from bytes
 --     value_of_lem, flag-of    a point's value in a stretch, by kind
@@ -38,8 +39,8 @@ use Rattle.records.specs.Value.{flag, int16, int32, float, signed, value_of, byt
 use Rattle.reader.specs.declared.stretch.Stretch.{Stretch}
 use Rattle.reader.specs.declared.answers.Value.TheVariants.{Text}
 use Rattle.reader.specs.Answers.{part, answered}
-use Rattle.reader.specs.Stretch.{IsLent}
-use Rattle.reader.specs.Frame.{and_then, is_reply, record_part, record_checked, reply_checked, frame_checked, group_named, place_checked, stretch_checked, stretch_from, stretch_length}
+use Rattle.reader.specs.Stretch.{LentRecord, IsLent}
+use Rattle.reader.specs.Frame.{and_then, is_reply, record_part, record_checked, reply_checked, frame_checked, group_named, place_checked, stretch_checked, stretch_from, stretch_length, stretch_part}
 
 never : {X : Type 0} → ◌≡◌ {A = ℕ} 0 1 → X
 never z = absurd (omega arith)
@@ -81,6 +82,9 @@ frame-good gs d f size e = go (judged gs) refl e
     go : (j : Result ℕ Refusal) → judged gs ≡ j → and_then j (reply_checked d f) ≡ Ok size → GoodFrame gs d f size
     go (Ok n) is q = replied n (judged-good gs n is) (is_reply f n) refl q
     go (Err refusal) is q = never (cc)
+
+pub length-record : (gs : List ℕ) (d : Bool) (f : List ℕ) (size : ℕ) → GoodFrame gs d f size → length (record_part f size) ≡ size
+length-record gs d f size ok = length_part f 3 size (omega (arith, ok.long))
 
 -- ---- places
 -- the points of a place end within the record
@@ -126,6 +130,21 @@ stretch-good gs d f g size e = go (frame_checked gs d f) refl e
     go : (c : Result ℕ Refusal) → frame_checked gs d f ≡ c → and_then c (place_checked (group_named gs g)) ≡ Ok size → GoodStretch gs d f g size
     go (Ok n) is q = named n (frame-good gs d f n is) (within 1 16 g) refl q
     go (Err refusal) is q = never (cc)
+
+-- the record of such a stretch, as it is handed on
+pub lent-record : (gs : List ℕ) (d : Bool) (f : List ℕ) (g size from : ℕ) → GoodStretch gs d f g size → from ≡ stretch_from gs g → LentRecord gs (record_part f size) g from
+lent-record gs d f g size from ok starts =
+    let long = length-record gs d f size ok.frame in
+    record {
+      least = ok.from;
+      most = ok.to;
+      starts = starts;
+      inside = rw long ok.fits;
+      short = rw long ok.frame.definition.most;
+    }
+
+pub length-stretch : (gs bs : List ℕ) (g from : ℕ) → LentRecord gs bs g from → length (stretch_part gs bs g) ≡ stretch_length gs g
+length-stretch gs bs g from lent = length_part bs (stretch_from gs g) (stretch_length gs g) lent.inside
 
 -- the group of a place
 pub named-is : (gs : List ℕ) (g : ℕ) → 1 ≤ g → g ≤ 16 → group_named gs g ≡ group_at gs (g - 1)

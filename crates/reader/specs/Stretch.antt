@@ -5,7 +5,7 @@ use Rattle.points.specs.declared.groups.Group.TheVariants.{Points}
 use Rattle.points.specs.Table.{points_size}
 use Rattle.points.specs.Groups.{group_of, group_at}
 use Rattle.reader.specs.declared.stretch.Stretch.{Stretch}
-use Rattle.reader.specs.Frame.{record_at, record_part, stretch_checked, stretch_from, stretch_part}
+use Rattle.reader.specs.Frame.{record_at, record_part, stretch_checked, stretch_from, stretch_length, stretch_part}
 
 -- the stretch of place g of a frame that passes, whose record has `size` bytes
 pub record IsStretch (gs : List ℕ) (d : Bool) (f : List ℕ) (g : ℕ) (s : Stretch) : Type 0 where
@@ -20,6 +20,14 @@ pub record IsStretch (gs : List ℕ) (d : Bool) (f : List ℕ) (g : ℕ) (s : St
 abbrev pub FoundStretch : List ℕ → Bool → List ℕ → ℕ → Result Stretch Refusal → Type 0
 FoundStretch gs d f g (Ok s) = IsStretch gs d f g s
 FoundStretch gs d f g (Err refusal) = stretch_checked gs d f g ≡ Err refusal
+
+-- a place of a definition, a record that has its stretch, and the byte of the record where that starts
+pub record LentRecord (gs bs : List ℕ) (g from : ℕ) : Type 0 where
+  pub least : 1 ≤ g
+  pub most : g ≤ 16
+  pub starts : from ≡ stretch_from gs g
+  pub inside : stretch_from gs g + stretch_length gs g ≤ length bs
+  pub short : length bs ≤ 250
 
 -- a stretch of a group, in a frame of at most 255 bytes
 pub record IsLent (s : Stretch) : Type 0 where

@@ -1,6 +1,7 @@
 // The stretch of a place. Places count from 1, unused ones too.
-ghost use Rattle.std.specs.Prelude.{◌≡◌, IfOk};
-ghost use Rattle.reader.specs.Stretch.{FoundStretch, IsLent};
+ghost use Rattle.std.specs.Prelude.{◌≡◌, ◌≤◌, IfOk};
+ghost use Rattle.reader.specs.Frame.{stretch_from, stretch_part};
+ghost use Rattle.reader.specs.Stretch.{FoundStretch, LentRecord, IsLent};
 ghost use Rattle.reader.specs.Answers.{found_stretch};
 
 use crate::answers::Part;
@@ -15,6 +16,25 @@ pub struct Stretch<'a> {
     pub run: Run,
     pub from: usize,
     pub bytes: &'a [u8],
+}
+
+// Where the stretch of place g starts in a record.
+#[tactic(auto, using(points::proofs::Laws::walk_laws))]
+pub fn stretch_from(groups: &[u16; NUMBERS], g: u32) -> usize
+    requires { (1 ≤ g) × (g ≤ 16) }
+    ensures { result ≡ stretch_from groups.now g }
+{
+    STAMP_BYTES + groups_size(groups, (g - 1) as usize)
+}
+
+// The stretch of place g, which starts at byte `from` of the record's bytes: a part of them, whether they come in a frame or not.
+// A reply's own is `Reply::stretch_of`, which makes the checks and has the place's points at hand.
+pub fn stretch_of<'b>(groups: &[u16; NUMBERS], bytes: &'b [u8], g: u32, from: usize) -> &'b [u8]
+    requires { LentRecord groups.now bytes.now g from }
+    ensures { result.now ≡ stretch_part groups.now bytes.now g }
+{
+    let end = from + group_at(groups, (g - 1) as usize).bytes();
+    &bytes[from..end]
 }
 
 impl<'f> Reply<'_, 'f> {
@@ -35,7 +55,7 @@ impl<'f> Reply<'_, 'f> {
             return Err(Refusal::Beyond);
         };
         let length = run.bytes();
-        let start = STAMP_BYTES + groups_size(groups, place);
+        let start = stretch_from(groups, g);
         let record = record_of(self.frame, size);
         Ok(Stretch {
             run,
