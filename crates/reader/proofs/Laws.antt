@@ -1,9 +1,8 @@
 -- Laws of the reading end's answers. Assumes nothing.
 --     frame-good       what a frame is that is not refused
 --     stretch-good     what a place is whose stretch is not refused
---     place-fits, place_inside    a place's stretch ends within the record
+--     named-is, place-fits, place_inside    a place's group, and that its stretch ends within the record
 --     lent-record, length-stretch    its record is as `stretch_of` asks, and how long the stretch is
---     named-is         the group of a place
 --     two_bytes, four_bytes    numbers from bytes
 --     value_of_lem, flag-of    a point's value in a stretch, by kind
 --     stretch_laws     what a stretch holds of a point, and the point's value, by kind
@@ -87,6 +86,10 @@ pub length-record : (gs : List ℕ) (d : Bool) (f : List ℕ) (size : ℕ) → G
 length-record gs d f size ok = length_part f 3 size (omega (arith, ok.long))
 
 -- ---- places
+-- the group of a place
+pub named-is : (gs : List ℕ) (g : ℕ) → 1 ≤ g → g ≤ 16 → group_named gs g ≡ group_at gs (g - 1)
+named-is gs g from to = simp (le-leb 1 g from, le-leb g 16 to)
+
 -- the points of a place end within the record
 pub place_inside : (gs : List ℕ) (k : ℕ) (q : Run) → k < 16 → group_at gs k ≡ Points q →
     6 + groups_size gs k + points_size q.row q.count ≤ record_size gs
@@ -145,10 +148,6 @@ lent-record gs d f g size from ok starts =
 
 pub length-stretch : (gs bs : List ℕ) (g from : ℕ) → LentRecord gs bs g from → length (stretch_part gs bs g) ≡ stretch_length gs g
 length-stretch gs bs g from lent = length_part bs (stretch_from gs g) (stretch_length gs g) lent.inside
-
--- the group of a place
-pub named-is : (gs : List ℕ) (g : ℕ) → 1 ≤ g → g ≤ 16 → group_named gs g ≡ group_at gs (g - 1)
-named-is gs g from to = simp (le-leb 1 g from, le-leb g 16 to)
 
 -- ---- numbers from bytes
 pub two_bytes : (s : List ℕ) (i : ℕ) → i + 2 ≤ length s → number_of (take 2 (drop i s)) ≡ word_at s i
