@@ -88,16 +88,25 @@ fn check_reply(frame: &[u8], day_first: bool, size: usize) -> Result<usize, Refu
     check_record(record_of(frame, size), day_first)
 }
 
+// Checks groups and frame: the size of the record, or the first row of the card that applies. Apart from the method, so that the reads,
+// into which that is put, share one.
+#[tactic(auto, unfolding(crate::specs::Frame::frame_checked))]
+fn check_frame(groups: &[u16], day_first: bool, frame: &[u8]) -> Result<usize, Refusal>
+    ensures checked { result ≡ frame_checked groups.now day_first frame.now }
+    ensures passed { IfOk result (Passed groups.now frame.now) }
+{
+    let size = judge(groups)?;
+    check_reply(frame, day_first, size)
+}
+
 impl Reply<'_, '_> {
     // Checks groups and frame: the size of the record, or the first row of the card that applies.
-    #[tactic(auto, unfolding(crate::specs::Frame::frame_checked))]
     #[inline(always)]
     pub fn check(&self) -> Result<usize, Refusal>
         ensures checked { result ≡ frame_checked self.now.groups.now self.now.day_first self.now.frame.now }
         ensures passed { IfOk result (Passed self.now.groups.now self.now.frame.now) }
     {
-        let size = judge(self.groups)?;
-        check_reply(self.frame, self.day_first, size)
+        check_frame(self.groups, self.day_first, self.frame)
     }
 
     // The record: its place and length in the frame.
