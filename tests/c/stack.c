@@ -14,8 +14,8 @@
 #include "windrow_gateway.h"
 #include "windrow_reader.h"
 
-#define PROVED_STACK_BYTES 9216
-#define POLL_STACK_BYTES 7296 /* no room for a record or for one more copy of the state */
+#define PROVED_STACK_BYTES 6656 /* no room for one more copy of the state in any call but Fresh */
+#define POLL_STACK_BYTES 6816 /* no room for a record or for one more copy of the state */
 #define READER_STACK_BYTES 1023 /* windrow_reader.h: less than 1 KiB */
 #define PAINT 0xA5
 
