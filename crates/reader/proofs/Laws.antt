@@ -1,5 +1,5 @@
 -- Laws of the reading end's answers. Assumes nothing.
---     frame-good       what a frame is that is not refused
+--     record-good, frame-good    what a record and a frame are that are not refused
 --     stretch-good     what a place is whose stretch is not refused
 --     named-is, place-fits, place_inside    a place's group, and that its stretch ends within the record
 --     lent-record, length-stretch    its record is as `stretch_of` asks, and how long the stretch is
@@ -18,7 +18,7 @@ use lib.Dec.{eqb, leb, ltb}
 use lib.ListN.{length, get_or, take, drop}
 use Rattle.std.specs.Prelude.{Result, Ok, Err}
 use Rattle.basics.specs.declared.card.Refusal.{Refusal}
-use Rattle.basics.specs.declared.card.Refusal.TheVariants.{Garbled, Empty}
+use Rattle.basics.specs.declared.card.Refusal.TheVariants.{Garbled}
 use Rattle.basics.specs.Lists.{all_zero, tabulate}
 use Rattle.basics.specs.Numbers.{within}
 use Rattle.basics.proofs.Tests.{and_left, and_right, eq-or-not}
@@ -56,26 +56,22 @@ pub reply-long : (f : List ℕ) (size : ℕ) → is_reply f size ≡ true → le
 unfolding is_reply
 reply-long f size e = eqb-true (length f) (size + 5) (and_left (eqb (length f) (size + 5)) _ e)
 
+-- what a record is that passes
+pub record-good : (d : Bool) (bs : List ℕ) (size : ℕ) → record_checked d bs ≡ Ok size →
+    (all_zero bs ≡ false) × (in_range (stamp_from d bs) ≡ true) × (length bs ≡ size)
+unfolding record_checked
+record-good d bs size e = grind arith
+
 pub frame-good : (gs : List ℕ) (d : Bool) (f : List ℕ) (size : ℕ) → frame_checked gs d f ≡ Ok size → GoodFrame gs d f size
-unfolding frame_checked reply_checked record_checked
+unfolding frame_checked reply_checked
 frame-good gs d f size e = go (judged gs) refl e
   where
-    dated : (n : ℕ) → GoodDefinition gs n → is_reply f n ≡ true → all_zero (record_part f n) ≡ false
-        → (b : Bool) → in_range (stamp_from d (record_part f n)) ≡ b → cond b (Ok (length (record_part f n))) (Err Garbled) ≡ Ok size → GoodFrame gs d f size
-    dated n ok reply filled true t q =
-        let long = reply-long f n reply in
-        let whole : length (record_part f n) ≡ size = cc in
-        let same : n ≡ size = sym (length_part f 3 n (omega (arith, long))) ∙ whole in
-        subst (λ k. GoodFrame gs d f k) same (record { definition = ok; reply = reply; long = long; filled = filled; dated = t })
-    dated n ok reply filled false t q = never (cc)
-
-    filled : (n : ℕ) → GoodDefinition gs n → is_reply f n ≡ true → (b : Bool) → all_zero (record_part f n) ≡ b
-        → cond b (Err Empty) (cond (in_range (stamp_from d (record_part f n))) (Ok (length (record_part f n))) (Err Garbled)) ≡ Ok size → GoodFrame gs d f size
-    filled n ok reply true t q = never (cc)
-    filled n ok reply false t q = dated n ok reply t (in_range (stamp_from d (record_part f n))) refl q
-
     replied : (n : ℕ) → GoodDefinition gs n → (b : Bool) → is_reply f n ≡ b → cond b (record_checked d (record_part f n)) (Err Garbled) ≡ Ok size → GoodFrame gs d f size
-    replied n ok true t q = filled n ok t (all_zero (record_part f n)) refl q
+    replied n ok true t q =
+        let long = reply-long f n t in
+        let good = record-good d (record_part f n) size q in
+        let same : n ≡ size = sym (length_part f 3 n (omega (arith, long))) ∙ good.2 in
+        subst (λ k. GoodFrame gs d f k) same (record { definition = ok; reply = t; long = long; filled = good.0; dated = good.1 })
     replied n ok false t q = never (cc)
 
     go : (j : Result ℕ Refusal) → judged gs ≡ j → and_then j (reply_checked d f) ≡ Ok size → GoodFrame gs d f size
