@@ -88,8 +88,8 @@ fn check_reply(frame: &[u8], day_first: bool, size: usize) -> Result<usize, Refu
     check_record(record_of(frame, size), day_first)
 }
 
-// Checks groups and frame: the size of the record, or the first row of the card that applies. Apart from the method, so that the reads,
-// into which that is put, share one.
+// Checks groups and frame: the size of the record, or the first row of the card that applies. A function of its own: `Reply::check` is put
+// into each of the four reads, and they share this one.
 #[tactic(auto, unfolding(crate::specs::Frame::frame_checked))]
 fn check_frame(groups: &[u16], day_first: bool, frame: &[u8]) -> Result<usize, Refusal>
     ensures checked { result ≡ frame_checked groups.now day_first frame.now }

@@ -27,8 +27,8 @@ pub fn stretch_from(groups: &[u16; NUMBERS], g: u32) -> usize
     STAMP_BYTES + groups_size(groups, (g - 1) as usize)
 }
 
-// The stretch of place g, which starts at byte `from` of the record's bytes: a part of them, whether they come in a frame or not.
-// A reply's own is `Reply::stretch_of`, which makes the checks and has the place's points at hand.
+// The stretch of place g, which starts at byte `from` of the record's bytes: a part of them. It is for who has a record's bytes without a
+// frame; a reply's own is `Reply::stretch_of`, which makes the checks and has the place's points at hand.
 pub fn stretch_of<'b>(groups: &[u16; NUMBERS], bytes: &'b [u8], g: u32, from: usize) -> &'b [u8]
     requires { LentRecord groups.now bytes.now g from }
     ensures { result.now ≡ stretch_part groups.now bytes.now g }
